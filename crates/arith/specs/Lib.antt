@@ -1,0 +1,3 @@
+pub mod Format
+pub mod Number
+pub mod Pattern
