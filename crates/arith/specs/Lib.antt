@@ -1,3 +1,4 @@
 pub mod Format
 pub mod Number
 pub mod Pattern
+pub mod Sequence

@@ -1,12 +1,13 @@
 -- What a bit pattern means by the fields that IEEE 754 gives it, and which pattern shows a number.
 use Prim.Native.Nat.{ℕ, _+_, _-_, _*_, _/_, _%_, _^_}
-use mathlib.Core.Bool.{Bool, true, false, cond, _||_}
+use mathlib.Core.Path.{_≡_}
+use mathlib.Core.Bool.{Bool, cond, _||_}
 use lib.Dec.{eqb, leb}
 use lib.IntN.{pos, _+ℤ_, _-ℤ_, natAbs}
 use Rattle.std.specs.declared.result.Result.{Result}
 use Rattle.std.specs.declared.result.Result.the-variants.{Ok, Err}
-use Rattle.exact.specs.Exact.{Exact, scaled, signedBy, _⊠_}
-use Rattle.exact.specs.Parts.{Parts, parts, zeroParts}
+use Rattle.exact.specs.Exact.{Exact, scaled, signedBy, _⊠_, _≈_}
+use Rattle.exact.specs.Parts.{Parts, parts, zeroParts, value}
 use Rattle.arith.specs.declared.format.Format.{Format}
 use Rattle.arith.specs.declared.pattern.PatternFault.{PatternFault}
 use Rattle.arith.specs.declared.pattern.PatternFault.the-variants.{Invalid, Subnormal}
@@ -56,3 +57,7 @@ encoded f x =
 -- a pattern without the sign of zero: the lone sign bit becomes zero bits only, and any other pattern stays
 abbrev pub plainZero : Format → ℕ → ℕ
 plainZero f n = cond (eqb n (2 ^ (f .width - 1))) 0 n
+
+-- two accepted patterns of the same value are equal, but for the sign of zero: here of n, which stands for x, and of any other
+abbrev pub ToldApart : Format → ℕ → Parts → Type 0
+ToldApart f n x = (m : ℕ) (y : Parts) → decoded f m ≡ Ok y → value (f .precision) y ≈ value (f .precision) x → plainZero f m ≡ plainZero f n

@@ -5,13 +5,11 @@ mod format;
 mod number;
 mod pattern;
 
-
 pub use complex::Complex;
-
+pub use complex::ComplexClone;
 pub use format::Format;
 pub use number::Number;
 pub use pattern::PatternFault;
-
 
 pub type Binary16 = Number<1>;
 

@@ -11,7 +11,7 @@ ghost use Rattle.exact.specs.Exact.{_≈_};
 ghost use Rattle.exact.specs.Parts.{Parts, parts, zeroParts, value};
 ghost use Rattle.arith.specs.Format.{formatOf};
 ghost use Rattle.arith.specs.Number.{partsOf, partsBy, valueOf};
-ghost use Rattle.arith.specs.Pattern.{signBit, exponentField, fraction, invalid, decoded, encoded, ieeeValue, plainZero};
+ghost use Rattle.arith.specs.Pattern.{signBit, exponentField, fraction, invalid, decoded, encoded, ieeeValue, plainZero, ToldApart};
 use crate::format::Format;
 use crate::number::Number;
 
@@ -134,6 +134,9 @@ impl<const C: u8> Number<C> {
     // The number that a pattern stands for, or why there is none.
     pub fn from_pattern(pattern: u32) -> Result<Number<C>, PatternFault>
         ensures defined { λ r. ⌜ partsBy r ≡ decoded (formatOf C) pattern ⌝ }
+        ensures ieee_value { λ r. ⌜ made r (λ x. valueOf x ≈ ieeeValue (formatOf C) pattern) ⌝ }
+        ensures shown_again { λ r. ⌜ made r (λ x. encoded (formatOf C) (partsOf x) ≡ plainZero (formatOf C) pattern) ⌝ }
+        ensures told_apart { λ r. ⌜ made r (λ x. ToldApart (formatOf C) pattern (partsOf x)) ⌝ }
     {
         decode(pattern)
     }
@@ -141,6 +144,7 @@ impl<const C: u8> Number<C> {
     // The pattern that shows the number.
     pub fn pattern(self) -> u32
         ensures defined { λ r. ⌜ r ≡ encoded (formatOf C) (partsOf (self .entry)) ⌝ }
+        ensures read_back { λ r. ⌜ decoded (formatOf C) r ≡ Ok (partsOf (self .entry)) ⌝ }
     {
         if self.significand == 0 {
             return 0;

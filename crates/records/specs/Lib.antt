@@ -1,0 +1,5 @@
+pub mod Numbers
+pub mod Codes
+pub mod Kinds
+pub mod Frames
+pub mod Asked
