@@ -1,5 +1,5 @@
 -- What a whole record asks for, or why it is refused: its kind is judged first, then its order, its length, and its payload.
-use Prim.Native.Nat.{ℕ, _+_, _*_}
+use Prim.Native.Nat.{ℕ, _+_, _*_, _≤_}
 use mathlib.Core.Path.{_≡_}
 use mathlib.Core.Bool.{Bool, true, cond, _&&_}
 use mathlib.Core.List.{List, [], _∷_}
@@ -93,3 +93,10 @@ PartOf p (records.Load d re im) =
 PartOf p (records.Show d) = Unit {0}
 PartOf p (records.Note t) = t ≡ p
 PartOf p records.End = Unit {0}
+
+-- a pattern has at most four bytes, and a text at most 64
+abbrev pub Fits : Record → Type 0
+Fits (records.Load d re im) = (length (re .now) ≤ 4) × (length (im .now) ≤ 4)
+Fits (records.Show d) = Unit {0}
+Fits (records.Note t) = length (t .now) ≤ 64
+Fits records.End = Unit {0}

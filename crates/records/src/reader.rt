@@ -5,7 +5,7 @@ ghost use Rattle.std.specs.Vec.{made};
 ghost use Rattle.arith.specs.Format.{formatOf};
 ghost use Rattle.records.specs.Frames.{frame};
 ghost use Rattle.records.specs.declared.kind.Kind.the-variants.{Load, Show, Note, End};
-ghost use Rattle.records.specs.Asked.{littleEndian, printable, asked, askedBy, opening, codesBy, asking, PartOf};
+ghost use Rattle.records.specs.Asked.{littleEndian, printable, asked, askedBy, opening, codesBy, asking, PartOf, Fits};
 use crate::codes::Codes;
 use crate::codes::FormatCode;
 use crate::codes::MethodCode;
@@ -74,6 +74,7 @@ fn read_codes(payload: &[u8]) -> Result<Codes, RecordFault>
 fn read_load<'a, const C: u8>(payload: &'a [u8]) -> Result<Record<'a>, RecordFault>
     ensures asks { λ r. ⌜ asking r ≡ askedBy (formatOf C) (now (payload .entry)) Load ⌝ }
     ensures part { λ r. ⌜ made r (PartOf (payload .entry)) ⌝ }
+    ensures fits { λ r. ⌜ made r Fits ⌝ }
 {
     let size = Format::of_code(C).width as usize / 8;
     let [place, patterns @ ..] = payload else {
@@ -93,6 +94,7 @@ fn read_load<'a, const C: u8>(payload: &'a [u8]) -> Result<Record<'a>, RecordFau
 fn read_note<'a, const C: u8>(payload: &'a [u8]) -> Result<Record<'a>, RecordFault>
     ensures asks { λ r. ⌜ asking r ≡ askedBy (formatOf C) (now (payload .entry)) Note ⌝ }
     ensures part { λ r. ⌜ made r (PartOf (payload .entry)) ⌝ }
+    ensures fits { λ r. ⌜ made r Fits ⌝ }
 {
     if payload.len() > 64 {
         return Err(RecordFault::WrongLength);
@@ -106,6 +108,7 @@ fn read_note<'a, const C: u8>(payload: &'a [u8]) -> Result<Record<'a>, RecordFau
 fn read_show<'a, const C: u8>(payload: &'a [u8]) -> Result<Record<'a>, RecordFault>
     ensures asks { λ r. ⌜ asking r ≡ askedBy (formatOf C) (now (payload .entry)) Show ⌝ }
     ensures part { λ r. ⌜ made r (PartOf (payload .entry)) ⌝ }
+    ensures fits { λ r. ⌜ made r Fits ⌝ }
 {
     let [place] = payload else {
         return Err(RecordFault::WrongLength);
@@ -116,6 +119,7 @@ fn read_show<'a, const C: u8>(payload: &'a [u8]) -> Result<Record<'a>, RecordFau
 fn read_end<'a, const C: u8>(payload: &'a [u8]) -> Result<Record<'a>, RecordFault>
     ensures asks { λ r. ⌜ asking r ≡ askedBy (formatOf C) (now (payload .entry)) End ⌝ }
     ensures part { λ r. ⌜ made r (PartOf (payload .entry)) ⌝ }
+    ensures fits { λ r. ⌜ made r Fits ⌝ }
 {
     let [] = payload else {
         return Err(RecordFault::WrongLength);
@@ -137,6 +141,7 @@ pub fn read_opening(first: Frame<'_>) -> Result<Codes, RecordFault>
 pub fn read_record<'a, const C: u8>(whole: Frame<'a>) -> Result<Record<'a>, RecordFault>
     ensures asks { λ r. ⌜ asking r ≡ asked (formatOf C) (frame (whole .entry .kind) (now (whole .entry .payload))) ⌝ }
     ensures part_of_tape { λ r. ⌜ made r (PartOf (whole .entry .payload)) ⌝ }
+    ensures fits { λ r. ⌜ made r Fits ⌝ }
 {
     match Kind::from_code(whole.kind)? {
         Kind::Open => Err(RecordFault::OutOfOrder),

@@ -7,4 +7,5 @@ pub returns : need.returns
 returns g c = record {
   asks = loads (c .of-code .result) (formatOf (g .C)) (c .args .payload .now) (c .of-code .ensures) (search needs) (c .if-patterns-size .left);
   part = search needs;
+  fits = search needs;
 }

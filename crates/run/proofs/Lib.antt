@@ -1,0 +1,4 @@
+pub mod Writes
+mod Digits
+mod Fields
+mod Windows

@@ -1,0 +1,17 @@
+use mathlib.Core.Path.{_≡_, ap, subst}
+use Prim.Native.Nat.{ℕ, _/_, _+_, _≤_}
+use native.Mathlib.Omega.{arith}
+use borrow.Author.Needs.{needs}
+use Rattle.arith.specs.Format.{formatOf}
+use Rattle.run.specs.Lines.{field, patternDigits}
+use Rattle.run.specs.Text.{Wrote, hexadecimal}
+use Rattle.run.proofs.Writes.{wrote-then}
+use Rattle.run.proofs.lines.put_pattern.Needs as need
+
+pub returns : need.returns
+returns g c =
+    let digits : c .of-code .result .width / 4 ≡ patternDigits (formatOf (g .C)) = ap patternDigits (c .of-code .ensures) in
+    record {
+      wrote = rw digits at (wrote-then (c .put-byte-at .ensures) (c .put-hexadecimal .ensures .wrote));
+      bound = search needs;
+    }
