@@ -1,3 +1,4 @@
 mod Fronts
 mod Printable
 mod Loads
+mod Questions

@@ -3,3 +3,4 @@ pub mod Codes
 pub mod Kinds
 pub mod Frames
 pub mod Asked
+pub mod Questions

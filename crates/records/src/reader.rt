@@ -1,11 +1,13 @@
 // What a whole record asks for. The questions come in turn: its kind, its order, its length, and then its payload.
 ghost use mathlib.Core.Path.{_≡_};
 ghost use lib.ListN.{take};
+ghost use Rattle.std.specs.Results.{errPart};
 ghost use Rattle.std.specs.Vec.{made};
 ghost use Rattle.arith.specs.Format.{formatOf};
 ghost use Rattle.records.specs.Frames.{frame};
 ghost use Rattle.records.specs.declared.kind.Kind.the-variants.{Load, Show, Note, End};
 ghost use Rattle.records.specs.Asked.{littleEndian, printable, asked, askedBy, opening, codesBy, asking, PartOf, Fits};
+ghost use Rattle.records.specs.Questions.{firstNo, openingQuestions, laterQuestions};
 use crate::codes::Codes;
 use crate::codes::FormatCode;
 use crate::codes::MethodCode;
@@ -40,9 +42,7 @@ pub fn little_endian(bytes: &[u8]) -> u32
         [a] => *a as u32,
         [a, b] => *a as u32 + 256 * *b as u32,
         [a, b, c] => *a as u32 + 256 * (*b as u32 + 256 * *c as u32),
-        [a, b, c, d, ..] => {
-            *a as u32 + 256 * (*b as u32 + 256 * (*c as u32 + 256 * *d as u32))
-        }
+        [a, b, c, d, ..] => { *a as u32 + 256 * (*b as u32 + 256 * (*c as u32 + 256 * *d as u32)) }
     }
 }
 
@@ -127,8 +127,8 @@ fn read_end<'a, const C: u8>(payload: &'a [u8]) -> Result<Record<'a>, RecordFaul
     Ok(Record::End)
 }
 
-// What a first record opens a run with.
-pub fn read_opening(first: Frame<'_>) -> Result<Codes, RecordFault>
+// A first record, by its kind.
+fn opening_by_kind(first: Frame<'_>) -> Result<Codes, RecordFault>
     ensures { λ r. ⌜ r ≡ opening (frame (first .entry .kind) (now (first .entry .payload))) ⌝ }
 {
     match Kind::from_code(first.kind)? {
@@ -137,8 +137,8 @@ pub fn read_opening(first: Frame<'_>) -> Result<Codes, RecordFault>
     }
 }
 
-// What a record behind the opening one asks for, where numbers have the format with the code C.
-pub fn read_record<'a, const C: u8>(whole: Frame<'a>) -> Result<Record<'a>, RecordFault>
+// A record behind the opening one, by its kind.
+fn record_by_kind<'a, const C: u8>(whole: Frame<'a>) -> Result<Record<'a>, RecordFault>
     ensures asks { λ r. ⌜ asking r ≡ asked (formatOf C) (frame (whole .entry .kind) (now (whole .entry .payload))) ⌝ }
     ensures part_of_tape { λ r. ⌜ made r (PartOf (whole .entry .payload)) ⌝ }
     ensures fits { λ r. ⌜ made r Fits ⌝ }
@@ -150,4 +150,22 @@ pub fn read_record<'a, const C: u8>(whole: Frame<'a>) -> Result<Record<'a>, Reco
         Kind::Note => read_note::<C>(whole.payload),
         Kind::End => read_end::<C>(whole.payload),
     }
+}
+
+// What a first record opens a run with.
+pub fn read_opening(first: Frame<'_>) -> Result<Codes, RecordFault>
+    ensures defined { λ r. ⌜ r ≡ opening (frame (first .entry .kind) (now (first .entry .payload))) ⌝ }
+    ensures in_turn { λ r. ⌜ errPart r ≡ firstNo (openingQuestions (frame (first .entry .kind) (now (first .entry .payload)))) ⌝ }
+{
+    opening_by_kind(first)
+}
+
+// What a record behind the opening one asks for, where numbers have the format with the code C.
+pub fn read_record<'a, const C: u8>(whole: Frame<'a>) -> Result<Record<'a>, RecordFault>
+    ensures asks { λ r. ⌜ asking r ≡ asked (formatOf C) (frame (whole .entry .kind) (now (whole .entry .payload))) ⌝ }
+    ensures part_of_tape { λ r. ⌜ made r (PartOf (whole .entry .payload)) ⌝ }
+    ensures fits { λ r. ⌜ made r Fits ⌝ }
+    ensures in_turn { λ r. ⌜ errPart (asking r) ≡ firstNo (laterQuestions (formatOf C) (frame (whole .entry .kind) (now (whole .entry .payload)))) ⌝ }
+{
+    record_by_kind::<C>(whole)
 }

@@ -13,7 +13,6 @@ use Rattle.run.specs.Text.{hexDigit, hexadecimal}
 pub length-decimal-step : (n : ℕ) → 10 ≤ n → n < 2 ^ 64 → length (decimal n) ≡ length (decimal (n / 10)) + 1
 length-decimal-step n h k = ap length (decimal-step n h k) ∙ length-append (decimal (n / 10)) _
 
-
 pub hexadecimal-step : (w n : ℕ) → 0 < w → hexadecimal w n ≡ hexadecimal (w - 1) (n / 16) ++ (hexDigit (n % 16) ∷ [])
 hexadecimal-step zero n h = absurd (omega arith)
 hexadecimal-step (suc w) n h = rw sub-one refl

@@ -10,6 +10,7 @@ mod text;
 pub use refusal::Refusal;
 pub use refusal::RefusalFromBank;
 pub use refusal::RefusalFromRecord;
+pub use refusal::Refused;
 pub use states::EndedRun;
 pub use states::FreshRun;
 pub use states::OpenedRun;

@@ -2,10 +2,14 @@
 ghost use Prim.Native.Nat.{ℕ, _+_, _≤_};
 ghost use mathlib.Core.Path.{_≡_};
 ghost use lib.ListN.{length};
+ghost use Rattle.std.specs.Results.{Cases};
 ghost use Rattle.std.specs.Written.{decimal};
+ghost use Rattle.std.specs.declared.result.Result.the-variants.{Ok, Err};
 ghost use Rattle.arith.specs.Format.{formatOf};
 ghost use Rattle.run.specs.Lines.{start, field, textField, openLine, doneLine, refusalLine, loaded, shownAt, noted, ended, patternDigits, doneBy, ShortText};
+ghost use Rattle.run.specs.States.{roomFor};
 ghost use Rattle.run.specs.Text.{Wrote, hexadecimal};
+use crate::refusal::Refusal;
 use crate::refusal::Refused;
 use crate::reply::Reply;
 use crate::text::put_byte;
@@ -16,6 +20,16 @@ use arith::Format;
 use bank::Shown;
 use records::Codes;
 use records::Kind;
+
+// Whether a line buffer has at least 96 bytes.
+pub(crate) fn has_room(line: &[u8]) -> Result<(), Refusal>
+    ensures { λ r. ⌜ r ≡ roomFor (length (now (line .entry))) ⌝ }
+{
+    if line.len() < 96 {
+        return Err(Refusal::BufferTooShort);
+    }
+    Ok(())
+}
 
 // The record's number and a word.
 fn put_start(line: &mut [u8], number: u32, word: &[u8]) -> usize
@@ -134,4 +148,16 @@ pub(crate) fn put_refusal(line: &mut [u8], refused: Refused) -> usize
     let at = put_number(line, at, refused.refusal.number() as u32);
     let at = put_number(line, at, 0);
     put_byte(line, at, b'\n')
+}
+
+impl Refused {
+    // Writes the line of the refusal; its length, or why there is no room for it.
+    pub fn write(self, line: &mut [u8]) -> Result<usize, Refusal>
+        ensures { λ r. ⌜ Cases r
+            (λ n. (roomFor (length (now (line .entry))) ≡ Ok tt) × Wrote (now (line .entry)) (now (line .exit)) 0 n (refusalLine (self .number) (self .refusal)))
+            (λ e. (roomFor (length (now (line .entry))) ≡ Err e) × (now (line .exit) ≡ now (line .entry))) ⌝ }
+    {
+        has_room(line)?;
+        Ok(put_refusal(line, self))
+    }
 }

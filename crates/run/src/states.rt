@@ -40,7 +40,16 @@ pub enum Opening<'a> {
 // Where taking a record leads, and the length of its line. Without room for a line the run stays as it was.
 #[derive(Drop)]
 pub enum Taking<'a> {
-    Running { run: OpenedRun<'a>, line: usize },
-    Ended { run: EndedRun, line: usize },
-    NoRoom { run: OpenedRun<'a>, refusal: Refusal },
+    Running {
+        run: OpenedRun<'a>,
+        line: usize,
+    },
+    Ended {
+        run: EndedRun,
+        line: usize,
+    },
+    NoRoom {
+        run: OpenedRun<'a>,
+        refusal: Refusal,
+    },
 }

@@ -12,8 +12,9 @@ ghost use Rattle.records.specs.Frames.{frame, front};
 ghost use Rattle.run.specs.Lines.{ShortText, refusalLine};
 ghost use Rattle.run.specs.Text.{Wrote};
 ghost use Rattle.run.specs.Turns.{obeyed, placesBy, replied, answered, placesIf, lineBy, acceptedEnd, bytesOf};
-ghost use Rattle.run.specs.States.{roomFor, shortTape, Starts, Opens, Takes, first, located, begun};
+ghost use Rattle.run.specs.States.{shortTape, Starts, Opens, Takes, first, located, begun};
 ghost use Rattle.std.specs.declared.result.Result.the-variants.{Err};
+use crate::lines::has_room;
 use crate::lines::put_open;
 use crate::lines::put_refusal;
 use crate::lines::put_reply;
@@ -102,16 +103,6 @@ fn respond<const C: u8>(
             ends: false,
         },
     }
-}
-
-// Whether a line buffer has at least 96 bytes.
-fn has_room(line: &[u8]) -> Result<(), Refusal>
-    ensures { λ r. ⌜ r ≡ roomFor (length (now (line .entry))) ⌝ }
-{
-    if line.len() < 96 {
-        return Err(Refusal::BufferTooShort);
-    }
-    Ok(())
 }
 
 // The bytes from a place on; none behind the end.

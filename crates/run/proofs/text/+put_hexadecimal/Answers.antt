@@ -10,7 +10,7 @@ returns-then-width-eq0 t c = record { wrote = rw (c .if-width-eq0 .taken) (wrote
 pub returns : need.returns
 returns t c = record {
   wrote =
-  rw (hexadecimal-step (c .args .width) (c .args .n) (omega arith))
-  (rw (sym (c .hex-digit .ensures)) (wrote-then (c .put-hexadecimal-last .ensures .wrote) (c .put-byte .ensures)));
+      rw (hexadecimal-step (c .args .width) (c .args .n) (omega arith))
+      (rw (sym (c .hex-digit .ensures)) (wrote-then (c .put-hexadecimal-last .ensures .wrote) (c .put-byte .ensures)));
   end = omega (arith, c .put-byte .ensures .end, c .put-hexadecimal-last .ensures .end);
 }

@@ -1,0 +1,4 @@
+pub mod After
+mod Taken
+mod Turning
+mod Openings
