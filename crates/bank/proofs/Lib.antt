@@ -1,2 +1,2 @@
 mod Slots
-mod Loads
+pub mod Loads

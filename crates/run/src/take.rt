@@ -213,7 +213,7 @@ impl<'a> OpenedRun<'a> {
     }
 
     // Takes the next record, with a bank that is lent for it.
-    pub fn take<const C: u8>(self, bank: &mut Bank<C>, line: &mut [u8]) -> Taking<'a>
+    pub fn take_record<const C: u8>(self, bank: &mut Bank<C>, line: &mut [u8]) -> Taking<'a>
         ensures { λ r. ⌜ Takes (formatOf C) (self .entry) (holds (now (bank .entry))) (holds (now (bank .exit))) (now (line .entry)) (now (line .exit)) r ⌝ }
     {
         if let Err(refusal) = has_room(line) {

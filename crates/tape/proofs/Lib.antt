@@ -1,4 +1,5 @@
-pub mod After
+mod After
 mod Taken
 mod Turning
 mod Openings
+mod Shows

@@ -39,7 +39,7 @@ fn print_record<'a, const C: u8>(
     ensures { λ r. ⌜ made r (Prints (formatOf C) (run .entry) (holds (now (bank .entry))) (holds (now (bank .exit))) (vec-items (now (out .entry))) (vec-items (now (out .exit)))) ⌝ }
 {
     let mut buffer = [0u8; 96];
-    match run.take(bank, &mut buffer) {
+    match run.take_record(bank, &mut buffer) {
         Taking::Running { run, line } => {
             add_line(out, &buffer, line)?;
             Ok(Some(run))

@@ -1,7 +1,5 @@
 use Rattle.arith.specs.Format.{formatOf}
 use Rattle.arith.proofs.Formats.{sound}
-use Rattle.arith.proofs.Accepted.{accepted}
-use Rattle.arith.proofs.Patterns.{shown}
 use Rattle.bank.specs.Calls.{loaded}
 use Rattle.bank.specs.Views.{holds}
 use Rattle.bank.proofs.Loads.{refused-changes-nothing, others-unchanged, shown-again}
@@ -21,5 +19,5 @@ returns g c =
       places = h .places;
       refused-changes-nothing = refused-changes-nothing ps qs d (loaded f d m n) (c .fill .result) (h .answer) (h .places);
       others-unchanged = others-unchanged ps qs d (loaded f d m n) (h .places);
-      shown-again = shown-again f (λ k x e. shown f (sound (g .C)) k x (accepted f k x e)) ps d m n qs (c .fill .result) (h .answer) (h .places) (h .there);
+      shown-again = shown-again f (sound (g .C)) ps qs d m n (c .fill .result) (h .answer) (h .places) (h .there);
     }
