@@ -1,5 +1,14 @@
-mod After
 mod Taken
 mod Turning
 mod Openings
+mod After
+mod Unbroken
+mod Numbering
+mod Last
+mod Told
+mod Fronts
+mod Behind
+mod Ends
+mod Refused
 mod Shows
+mod ShowLines

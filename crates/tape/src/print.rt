@@ -9,8 +9,9 @@ ghost use Rattle.arith.specs.Format.{formatOf};
 ghost use Rattle.bank.specs.Slots.{fresh};
 ghost use Rattle.bank.specs.Views.{holds};
 ghost use Rattle.run.specs.Lines.{refusalLine};
-ghost use Rattle.run.specs.States.{left};
+ghost use Rattle.run.specs.States.{left, first};
 ghost use Rattle.tape.specs.Printed.{linesOf, formatIn, runLines, printed, Prints};
+ghost use Rattle.tape.specs.Reading.{OneLineEach, ReadOut, NothingBehind, ShowsLastLoad, RefusedChangesNothing};
 use bank::Bank;
 use records::FormatCode;
 use run::FreshRun;
@@ -133,9 +134,14 @@ fn print_all(heap: Global, tape: &[u8]) -> Result<Vec<u8>, AllocError>
     }
 }
 
-// All lines of a tape: the text that is printed for it.
+// All lines of a tape: the text that is printed for it, and what holds of it.
 pub fn print_tape(heap: Global, tape: &[u8]) -> Result<Vec<u8>, AllocError>
     ensures defined { λ r. ⌜ made r (λ v. vec-items v ≡ printed (now (tape .entry))) ⌝ }
+    ensures one_line_each { λ r. ⌜ made r (λ v. OneLineEach (now (tape .entry)) (vec-items v)) ⌝ }
+    ensures read_out { λ _. ⌜ ReadOut (now (tape .entry)) (first (now (tape .entry))) ⌝ }
+    ensures nothing_behind { λ r. ⌜ made r (λ v. NothingBehind (now (tape .entry)) (vec-items v)) ⌝ }
+    ensures shows_last_load { λ r. ⌜ made r (λ v. ShowsLastLoad (now (tape .entry)) (vec-items v)) ⌝ }
+    ensures refused_changes_nothing { λ _. ⌜ RefusedChangesNothing ⌝ }
 {
     print_all(heap, tape)
 }
