@@ -10,9 +10,3 @@ pub use complex::ComplexClone;
 pub use format::Format;
 pub use number::Number;
 pub use pattern::PatternFault;
-
-pub type Binary16 = Number<1>;
-
-pub type Bfloat16 = Number<2>;
-
-pub type Binary32 = Number<3>;

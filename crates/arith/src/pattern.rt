@@ -1,17 +1,16 @@
 // Numbers from bit patterns, and the pattern that shows a number.
 ghost use mathlib.Core.Path.{_≡_};
-ghost use mathlib.Core.Bool.{Bool};
-ghost use Prim.Native.Nat.{ℕ, _+_, _-_, _*_, _^_, _<_, _≤_};
+ghost use Prim.Native.Nat.{_+_, _-_, _*_, _^_, _<_, _≤_};
 ghost use lib.Dec.{leb};
 ghost use lib.IntN.{pos, _+ℤ_, _-ℤ_, natAbs};
 ghost use lib.Signed.{_≤ℤ_};
 ghost use Rattle.std.specs.Vec.{made};
 ghost use Rattle.std.specs.declared.result.Result.the-variants.{Ok};
 ghost use Rattle.exact.specs.Exact.{_≈_};
-ghost use Rattle.exact.specs.Parts.{Parts, parts, zeroParts, value};
+ghost use Rattle.exact.specs.Parts.{parts, zeroParts, value};
 ghost use Rattle.arith.specs.Format.{formatOf};
 ghost use Rattle.arith.specs.Number.{partsOf, partsBy, valueOf};
-ghost use Rattle.arith.specs.Pattern.{signBit, exponentField, fraction, invalid, decoded, encoded, ieeeValue, plainZero, ToldApart};
+ghost use Rattle.arith.specs.Pattern.{signBit, exponentField, fraction, decoded, encoded, ieeeValue, plainZero, ToldApart};
 use crate::format::Format;
 use crate::number::Number;
 

@@ -1,10 +1,7 @@
 -- The places of a bank as their contents.
 use Prim.Native.Nat.{ℕ}
 use mathlib.Core.List.{List, [], _∷_}
-use Rattle.exact.specs.Parts.{Parts}
 use Rattle.arith.specs.Number.{partsOf}
-use Rattle.arith.specs.declared.complex.Complex.{Complex}
-use Rattle.arith.specs.declared.number.Number.{Number}
 use Rattle.bank.specs.Slots.{Slot, empty, filled}
 use Rattle.bank.specs.Calls.{complex}
 use Rattle.bank.specs.declared.place.Place.{Place}

@@ -6,7 +6,5 @@ mod store;
 
 pub use fault::Fault;
 pub use fault::FaultFromPattern;
-pub use place::Depth;
-pub use place::Place;
 pub use store::Bank;
 pub use store::Shown;

@@ -1,11 +1,10 @@
 -- Numbers of precision p that have the same value have the same parts.
-use Prim.Native.Nat.{ℕ, zero, suc, _+_, _-_, _*_, _^_, _≤_, _<_}
-use mathlib.Core.Path.{_≡_, refl, sym, ap, ap₂, subst, _∙_}
-use mathlib.Core.Bool.{Bool, true, false}
+use Prim.Native.Nat.{ℕ, _+_, _-_, _*_, _^_, _≤_, _<_}
+use mathlib.Core.Path.{_≡_, sym, ap, _∙_}
 use mathlib.Core.Logic.{_⊎_, inl, inr}
 use native.Mathlib.Omega.{arith}
 use native.Mathlib.Decide.{decLe}
-use native.Mathlib.Nat.{mul-lt-mul-of-pos-right, mul-le-mul-right, mul-pos, eq-zero-or-pos, eq-of-mul-eq-mul-right, zero-lt-suc}
+use native.Mathlib.Nat.{mul-lt-mul-of-pos-right, mul-le-mul-right, mul-pos, eq-zero-or-pos, eq-of-mul-eq-mul-right}
 use lib.Pow.{pow-pos, pow-add}
 use lib.IntN.{ℤ, pos, _+ℤ_, _-ℤ_, _*ℤ_, natAbs}
 use borrow.Author.Differences.{ints, up, down, same-in}

@@ -9,6 +9,7 @@ const ENOUGH: u64 = 65537;
 fn main(rt: LibcRuntime) -> io::Result<()> {
     let mut tape = Vec::new(rt.alloc());
     let _ = rt.stdin().take(ENOUGH).read_to_end(&mut tape)?;
-    let lines = tape::print_tape(rt.alloc(), tape.as_slice())?;
+    let mut lines = Vec::new(rt.alloc());
+    tape::print_tape(tape.as_slice(), &mut lines)?;
     rt.stdout().write_all(lines.as_slice())
 }

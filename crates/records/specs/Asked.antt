@@ -11,7 +11,7 @@ use Rattle.std.specs.declared.result.Result.the-variants.{Ok, Err}
 use Rattle.arith.specs.Sequence.{andThen}
 use Rattle.arith.specs.declared.format.Format.{Format}
 use Rattle.records.specs.Codes.{formatBy, methodBy}
-use Rattle.records.specs.Frames.{Framed}
+use Rattle.records.specs.Frames.{Framed, Part}
 use Rattle.records.specs.Kinds.{kindOf, patternBytes, openBytes, rightLength}
 use Rattle.records.specs.declared.codes.Codes.{Codes}
 use Rattle.records.specs.declared.codes.FormatCode.{FormatCode}
@@ -86,13 +86,12 @@ abbrev pub asking : Result Record RecordFault → Result Asked RecordFault
 asking (Ok r) = Ok (askedFor r)
 asking (Err e) = Err e
 
--- a record's patterns and texts are parts of the payload: the patterns one behind the other, the text the whole of it
-abbrev pub PartOf : RefT (List ℕ) → Record → Type 0
-PartOf p (records.Load d re im) =
-    (re .ptr .0 ≡ p .ptr .0) × (re .ptr .1 ≡ p .ptr .1 + 1) × (im .ptr .0 ≡ p .ptr .0) × (im .ptr .1 ≡ re .ptr .1 + length (re .now))
-PartOf p (records.Show d) = Unit {0}
-PartOf p (records.Note t) = t ≡ p
-PartOf p records.End = Unit {0}
+-- a record's patterns and texts are parts of the payload: the patterns one behind the other, and the text the whole of it
+abbrev pub PartOf : Format → RefT (List ℕ) → Record → Type 0
+PartOf f p (records.Load d re im) = Part p re 1 (patternBytes f) × Part p im (1 + patternBytes f) (patternBytes f)
+PartOf f p (records.Show d) = Unit {0}
+PartOf f p (records.Note t) = t ≡ p
+PartOf f p records.End = Unit {0}
 
 -- a pattern has at most four bytes, and a text at most 64
 abbrev pub Fits : Record → Type 0

@@ -1,12 +1,11 @@
 -- A record as it lies on the tape: four leading bytes, and then its payload.
-use Prim.Native.Nat.{ℕ, _+_, _*_, _≤_}
+use Prim.Native.Nat.{ℕ, _+_, _-_, _*_, _≤_}
 use denote.Ref.{RefT}
 use mathlib.Core.Path.{_≡_}
 use mathlib.Core.Bool.{cond}
 use mathlib.Core.List.{List}
 use lib.Dec.{ltb}
 use lib.ListN.{length, getD, take, drop}
-use Rattle.std.specs.shelf.Lists.{between}
 use Rattle.std.specs.declared.result.Result.{Result}
 use Rattle.std.specs.declared.result.Result.the-variants.{Ok, Err}
 use Rattle.records.specs.declared.fault.RecordFault.{RecordFault}
@@ -25,14 +24,18 @@ frame k p = record { kind = k; payload = p }
 abbrev pub word16 : List ℕ → ℕ → ℕ
 word16 bs i = getD bs i 0 + 256 * getD bs (i + 1) 0
 
--- the four leading bytes of a part of the tape, and the part behind them
+-- a part of some bytes that were lent, and no copy: so many of them, from a place on
+pub record Part (whole part : RefT (List ℕ)) (from size : ℕ) : Type 0 where
+  pub bytes : part .now ≡ take size (drop from (whole .now))
+  pub block : part .ptr .0 ≡ whole .ptr .0
+  pub offset : part .ptr .1 ≡ whole .ptr .1 + from
+
+-- four leading bytes, and the part behind them
 pub record Heads (bytes : RefT (List ℕ)) (size kind : ℕ) (behind : RefT (List ℕ)) : Type 0 where
   pub four : 4 ≤ length (bytes .now)
   pub size-is : size ≡ word16 (bytes .now) 0
   pub kind-is : kind ≡ word16 (bytes .now) 2
-  pub rest : behind .now ≡ between 4 (length (bytes .now)) (bytes .now)
-  pub block : behind .ptr .0 ≡ bytes .ptr .0
-  pub offset : behind .ptr .1 ≡ bytes .ptr .1 + 4
+  pub rest : Part bytes behind 4 (length (bytes .now) - 4)
 
 -- The record at the front of some bytes: the payload's length and the kind, 16 bits each, and then the payload.
 -- Where not all of these bytes are there, it is refused.

@@ -1,11 +1,11 @@
 // A record as it lies on the tape: four leading bytes, and then its payload.
 ghost use mathlib.Core.Path.{_≡_};
-ghost use Prim.Native.Nat.{ℕ, _+_, _<_, _≤_};
-ghost use lib.ListN.{length, take};
+ghost use Prim.Native.Nat.{_+_, _<_, _≤_};
+ghost use lib.ListN.{length};
 ghost use Rattle.std.specs.Options.{Cases as BySome};
 ghost use Rattle.std.specs.Results.{Cases};
 ghost use Rattle.std.specs.Vec.{made};
-ghost use Rattle.records.specs.Frames.{front, framed, Heads};
+ghost use Rattle.records.specs.Frames.{front, framed, Part, Heads};
 ghost use Rattle.records.specs.declared.fault.RecordFault.the-variants.{MissingPart};
 use crate::fault::RecordFault;
 
@@ -37,7 +37,7 @@ fn leading_bytes<'a>(left: &'a [u8]) -> Result<Header<'a>, RecordFault>
 
 // The first n bytes, if so many are there.
 fn first_bytes<'a>(bytes: &'a [u8], n: usize) -> Option<&'a [u8]>
-    ensures { λ r. ⌜ BySome r (length (now (bytes .entry)) < n) (λ t. (n ≤ length (now (bytes .entry))) × (t .now ≡ take n (now (bytes .entry))) × (t .ptr ≡ bytes .entry .ptr)) ⌝ }
+    ensures { λ r. ⌜ BySome r (length (now (bytes .entry)) < n) (λ t. (n ≤ length (now (bytes .entry))) × Part (bytes .entry) t 0 n) ⌝ }
 {
     if n > bytes.len() {
         return None;
@@ -50,7 +50,7 @@ impl<'a> Frame<'a> {
     pub fn first(left: &'a [u8]) -> Result<Frame<'a>, RecordFault>
         ensures front { λ r. ⌜ framed r ≡ front (now (left .entry)) ⌝ }
         ensures within { λ r. ⌜ made r (λ f. 4 + length (f .payload .now) ≤ length (now (left .entry))) ⌝ }
-        ensures part_of_tape { λ r. ⌜ made r (λ f. (f .payload .ptr .0 ≡ left .entry .ptr .0) × (f .payload .ptr .1 ≡ left .entry .ptr .1 + 4)) ⌝ }
+        ensures part_of_tape { λ r. ⌜ made r (λ f. Part (left .entry) (f .payload) 4 (length (f .payload .now))) ⌝ }
     {
         let header = leading_bytes(left)?;
         let Some(payload) = first_bytes(header.behind, header.size as usize) else {

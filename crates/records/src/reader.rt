@@ -73,7 +73,7 @@ fn read_codes(payload: &[u8]) -> Result<Codes, RecordFault>
 // A load's payload: the place and two patterns.
 fn read_load<'a, const C: u8>(payload: &'a [u8]) -> Result<Record<'a>, RecordFault>
     ensures asks { λ r. ⌜ asking r ≡ askedBy (formatOf C) (now (payload .entry)) Load ⌝ }
-    ensures part { λ r. ⌜ made r (PartOf (payload .entry)) ⌝ }
+    ensures part { λ r. ⌜ made r (PartOf (formatOf C) (payload .entry)) ⌝ }
     ensures fits { λ r. ⌜ made r Fits ⌝ }
 {
     let size = Format::of_code(C).width as usize / 8;
@@ -93,7 +93,7 @@ fn read_load<'a, const C: u8>(payload: &'a [u8]) -> Result<Record<'a>, RecordFau
 // A note's payload.
 fn read_note<'a, const C: u8>(payload: &'a [u8]) -> Result<Record<'a>, RecordFault>
     ensures asks { λ r. ⌜ asking r ≡ askedBy (formatOf C) (now (payload .entry)) Note ⌝ }
-    ensures part { λ r. ⌜ made r (PartOf (payload .entry)) ⌝ }
+    ensures part { λ r. ⌜ made r (PartOf (formatOf C) (payload .entry)) ⌝ }
     ensures fits { λ r. ⌜ made r Fits ⌝ }
 {
     if payload.len() > 64 {
@@ -107,7 +107,7 @@ fn read_note<'a, const C: u8>(payload: &'a [u8]) -> Result<Record<'a>, RecordFau
 
 fn read_show<'a, const C: u8>(payload: &'a [u8]) -> Result<Record<'a>, RecordFault>
     ensures asks { λ r. ⌜ asking r ≡ askedBy (formatOf C) (now (payload .entry)) Show ⌝ }
-    ensures part { λ r. ⌜ made r (PartOf (payload .entry)) ⌝ }
+    ensures part { λ r. ⌜ made r (PartOf (formatOf C) (payload .entry)) ⌝ }
     ensures fits { λ r. ⌜ made r Fits ⌝ }
 {
     let [place] = payload else {
@@ -118,7 +118,7 @@ fn read_show<'a, const C: u8>(payload: &'a [u8]) -> Result<Record<'a>, RecordFau
 
 fn read_end<'a, const C: u8>(payload: &'a [u8]) -> Result<Record<'a>, RecordFault>
     ensures asks { λ r. ⌜ asking r ≡ askedBy (formatOf C) (now (payload .entry)) End ⌝ }
-    ensures part { λ r. ⌜ made r (PartOf (payload .entry)) ⌝ }
+    ensures part { λ r. ⌜ made r (PartOf (formatOf C) (payload .entry)) ⌝ }
     ensures fits { λ r. ⌜ made r Fits ⌝ }
 {
     let [] = payload else {
@@ -140,7 +140,7 @@ fn opening_by_kind(first: Frame<'_>) -> Result<Codes, RecordFault>
 // A record behind the opening one, by its kind.
 fn record_by_kind<'a, const C: u8>(whole: Frame<'a>) -> Result<Record<'a>, RecordFault>
     ensures asks { λ r. ⌜ asking r ≡ asked (formatOf C) (frame (whole .entry .kind) (now (whole .entry .payload))) ⌝ }
-    ensures part_of_tape { λ r. ⌜ made r (PartOf (whole .entry .payload)) ⌝ }
+    ensures part_of_tape { λ r. ⌜ made r (PartOf (formatOf C) (whole .entry .payload)) ⌝ }
     ensures fits { λ r. ⌜ made r Fits ⌝ }
 {
     match Kind::from_code(whole.kind)? {
@@ -163,7 +163,7 @@ pub fn read_opening(first: Frame<'_>) -> Result<Codes, RecordFault>
 // What a record behind the opening one asks for, where numbers have the format with the code C.
 pub fn read_record<'a, const C: u8>(whole: Frame<'a>) -> Result<Record<'a>, RecordFault>
     ensures asks { λ r. ⌜ asking r ≡ asked (formatOf C) (frame (whole .entry .kind) (now (whole .entry .payload))) ⌝ }
-    ensures part_of_tape { λ r. ⌜ made r (PartOf (whole .entry .payload)) ⌝ }
+    ensures part_of_tape { λ r. ⌜ made r (PartOf (formatOf C) (whole .entry .payload)) ⌝ }
     ensures fits { λ r. ⌜ made r Fits ⌝ }
     ensures in_turn { λ r. ⌜ errPart (asking r) ≡ firstNo (laterQuestions (formatOf C) (frame (whole .entry .kind) (now (whole .entry .payload)))) ⌝ }
 {

@@ -2,3 +2,4 @@ pub mod Writes
 mod Digits
 mod Fields
 mod Windows
+mod Unchanged

@@ -16,4 +16,3 @@ pub use states::FreshRun;
 pub use states::OpenedRun;
 pub use states::Opening;
 pub use states::Taking;
-pub use states::Window;

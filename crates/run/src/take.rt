@@ -1,18 +1,18 @@
 // Making a run, opening it by its first record, and taking one record after another.
-ghost use Prim.Native.Nat.{ℕ, _+_, _-_, _≤_};
+ghost use Prim.Native.Nat.{_+_, _-_, _≤_};
 ghost use mathlib.Core.Path.{_≡_};
+ghost use mathlib.Core.Bool.{true};
 ghost use lib.ListN.{length, drop};
-ghost use Rattle.std.specs.Results.{Cases, mapped};
+ghost use Rattle.std.specs.Results.{Cases, isErr};
 ghost use Rattle.std.specs.Vec.{made};
 ghost use Rattle.arith.specs.Format.{formatOf};
-ghost use Rattle.arith.specs.Sequence.{andThen};
 ghost use Rattle.bank.specs.Views.{holds};
 ghost use Rattle.records.specs.Asked.{littleEndian, asked, askedFor, Fits};
 ghost use Rattle.records.specs.Frames.{frame, front};
-ghost use Rattle.run.specs.Lines.{ShortText, refusalLine};
+ghost use Rattle.run.specs.Lines.{ShortText};
 ghost use Rattle.run.specs.Text.{Wrote};
-ghost use Rattle.run.specs.Turns.{obeyed, placesBy, replied, answered, placesIf, lineBy, acceptedEnd, bytesOf};
-ghost use Rattle.run.specs.States.{shortTape, Starts, Opens, Takes, first, located, begun};
+ghost use Rattle.run.specs.Turns.{obeyed, placesBy, replied, answered, placesIf, outcome, lineBy, acceptedEnd, bytesOf};
+ghost use Rattle.run.specs.States.{left, shortTape, Starts, Opens, Takes, first, located, begun};
 ghost use Rattle.std.specs.declared.result.Result.the-variants.{Err};
 use crate::lines::has_room;
 use crate::lines::put_open;
@@ -212,8 +212,8 @@ impl<'a> OpenedRun<'a> {
         self.codes
     }
 
-    // Takes the next record, with a bank that is lent for it.
-    pub fn take_record<const C: u8>(self, bank: &mut Bank<C>, line: &mut [u8]) -> Taking<'a>
+    // Reads and obeys the next record, and writes its line.
+    fn next_record<const C: u8>(self, bank: &mut Bank<C>, line: &mut [u8]) -> Taking<'a>
         ensures { λ r. ⌜ Takes (formatOf C) (self .entry) (holds (now (bank .entry))) (holds (now (bank .exit))) (now (line .entry)) (now (line .exit)) r ⌝ }
     {
         if let Err(refusal) = has_room(line) {
@@ -255,6 +255,14 @@ impl<'a> OpenedRun<'a> {
             },
             line,
         }
+    }
+
+    // Takes the next record, with a bank that is lent for it.
+    pub fn take_record<const C: u8>(self, bank: &mut Bank<C>, line: &mut [u8]) -> Taking<'a>
+        ensures leads { λ r. ⌜ Takes (formatOf C) (self .entry) (holds (now (bank .entry))) (holds (now (bank .exit))) (now (line .entry)) (now (line .exit)) r ⌝ }
+        ensures refused_changes_nothing { λ _. ⌜ (isErr (outcome (formatOf C) (holds (now (bank .entry))) (front (left (self .entry .window)))) ≡ true → holds (now (bank .exit)) ≡ holds (now (bank .entry))) ⌝ }
+    {
+        self.next_record(bank, line)
     }
 }
 

@@ -1,4 +1,5 @@
 mod Taken
+mod Adding
 mod Turning
 mod Openings
 mod After
@@ -9,6 +10,5 @@ mod Told
 mod Fronts
 mod Behind
 mod Ends
-mod Refused
 mod Shows
 mod ShowLines

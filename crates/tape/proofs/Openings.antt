@@ -1,15 +1,18 @@
--- What a run prints behind its first line, by its tape.
-use Prim.Native.Nat.{ℕ}
-use mathlib.Core.Path.{_≡_, refl, sym, ap, _∙_}
+-- What a run prints, by its tape: the line of its first record, and those behind it.
+use Prim.Native.Nat.{ℕ, _+_, _≤_, _<_}
+use mathlib.Core.Path.{_≡_, refl, sym, ap, ap₂, _∙_}
 use mathlib.Core.Bool.{true}
-use mathlib.Core.List.{List, [], _++_, append-assoc, append-nil}
+use mathlib.Core.List.{List, [], _++_, append-nil}
+use native.Mathlib.Omega.{arith}
 use lib.ListN.{length, drop}
 use borrow.Author.Tests.{clash}
 use Rattle.std.proofs.shelf.Lists.{drop-drop}
 use Rattle.std.specs.Results.{isErr}
 use Rattle.std.specs.declared.result.Result.{Result}
 use Rattle.std.specs.declared.result.Result.the-variants.{Ok, Err}
+use Rattle.arith.specs.Sequence.{andThen}
 use Rattle.bank.specs.Slots.{fresh}
+use Rattle.records.specs.Asked.{opening}
 use Rattle.records.specs.Frames.{front}
 use Rattle.records.specs.declared.codes.Codes.{Codes}
 use Rattle.records.specs.declared.fault.RecordFault.{RecordFault}
@@ -17,34 +20,41 @@ use Rattle.run.specs.States.{left, first, firstLine, Opened}
 use Rattle.run.specs.Turns.{bytesOf}
 use Rattle.run.specs.declared.states.FreshRun.{FreshRun}
 use Rattle.run.specs.declared.states.OpenedRun.{OpenedRun}
-use Rattle.tape.specs.Printed.{linesOf, formatIn, linesBehind, runLines}
+use Rattle.tape.specs.Printed.{linesFrom, formatIn, linesBehind, runLines}
+use Rattle.tape.specs.Reading.{Read}
+use Rattle.tape.proofs.Fronts.{within, drop-shorter}
+use Rattle.tape.proofs.Turning.{lines-enough}
 
-module _ (run : FreshRun) where
+-- a record that opens a run takes bytes
+opening-bytes : (t : List ℕ) (r : Read) (c : Codes) → front t ≡ r → andThen r opening ≡ Ok c → (4 ≤ bytesOf r) × (length (drop (bytesOf r) t) < length t)
+opening-bytes t (Ok r) c e opens = (omega arith, drop-shorter (length (r .payload)) t (within t r e))
+opening-bytes t (Err x) c e opens = absurd (let z : _≡_ {A = ℕ} 0 1 = cc in omega arith)
+
+module _ (run : FreshRun) (o : OpenedRun) (p : Opened run o) where
   abbrev tape : List ℕ
   tape = left (run .window)
 
-  -- an opened run stands behind the first record
-  behind : (o : OpenedRun) → Opened run o → linesOf (length tape) (formatIn (o .codes)) fresh 2 (left (o .window)) ≡ linesBehind tape (first tape)
-  behind o p =
-      let lent : o .window .tape .now ≡ run .window .tape .now = ap (λ x. x .now) (p .lent) in
-      let rest : left (o .window) ≡ drop (bytesOf (front tape)) tape =
-      ap (λ x. drop (o .window .at) x) lent ∙ ap (λ m. drop m (run .window .tape .now)) (p .at)
-      ∙ sym (drop-drop (bytesOf (front tape)) (run .window .at) (run .window .tape .now)) in
-      ap (λ l. linesOf (length tape) (formatIn (o .codes)) fresh 2 l) rest ∙ sym (ap (linesBehind tape) (p .codes))
+  same-tape : o .window .tape .now ≡ run .window .tape .now
+  same-tape = ap (λ x. x .now) (p .lent)
 
-  -- all lines of a run that was opened: those before, its first, and those behind
-  pub opened-all : (o : OpenedRun) (bytes : ℕ) (before out line all : List ℕ) → Opened run o → bytes ≡ length tape → out ≡ before ++ line → line ≡ firstLine (first tape) → all ≡ out ++ linesOf bytes (formatIn (o .codes)) fresh 2 (left (o .window)) → all ≡ before ++ runLines tape
-  opened-all o bytes before out line all p eb eo el ea =
-      ea
-      ∙ ap (λ x. x ++ linesOf bytes (formatIn (o .codes)) fresh 2 (left (o .window))) (eo ∙ ap (λ l. before ++ l) el)
-      ∙ append-assoc before (firstLine (first tape)) (linesOf bytes (formatIn (o .codes)) fresh 2 (left (o .window)))
-      ∙ ap (λ m. before ++ (firstLine (first tape) ++ linesOf m (formatIn (o .codes)) fresh 2 (left (o .window)))) eb
-      ∙ ap (λ l. before ++ (firstLine (first tape) ++ l)) (behind o p)
+  left-is : left (o .window) ≡ drop (bytesOf (front tape)) tape
+  left-is = ap₂ drop (p .at) same-tape ∙ sym (drop-drop (bytesOf (front tape)) (run .window .at) (run .window .tape .now))
+
+  bytes : (4 ≤ bytesOf (front tape)) × (length (drop (bytesOf (front tape)) tape) < length tape)
+  bytes = opening-bytes tape (front tape) (o .codes) refl (p .codes)
+
+  -- the lines behind the first
+  pub opened-lines : runLines tape ≡ firstLine (first tape) ++ linesFrom (formatIn (o .codes)) fresh (o .window .number + 1) (left (o .window))
+  opened-lines =
+      ap (λ l. firstLine (first tape) ++ l) (
+      ap (linesBehind tape) (p .codes)
+      ∙ sym (lines-enough (length tape) (formatIn (o .codes)) fresh 2 (drop (bytesOf (front tape)) tape) (bytes .1))
+      ∙ ap₂ (λ m bs. linesFrom (formatIn (o .codes)) fresh (m + 1) bs) (sym (p .number)) (sym left-is))
 
 none-behind : (t : List ℕ) (r : Result Codes RecordFault) → isErr r ≡ true → linesBehind t r ≡ []
 none-behind t (Ok c) e = absurd (clash e)
 none-behind t (Err x) e = refl
 
 -- a first record that is refused gives the only line
-pub refused-all : (t : List ℕ) → isErr (first t) ≡ true → firstLine (first t) ≡ runLines t
-refused-all t e = sym (append-nil (firstLine (first t))) ∙ ap (λ l. firstLine (first t) ++ l) (sym (none-behind t (first t) e))
+pub refused-lines : (t : List ℕ) → isErr (first t) ≡ true → firstLine (first t) ≡ runLines t
+refused-lines t e = sym (append-nil (firstLine (first t))) ∙ ap (λ l. firstLine (first t) ++ l) (sym (none-behind t (first t) e))

@@ -27,5 +27,5 @@ show-line c n d before r e =
 
 pub shows-last-load : (t : List ℕ) → ShowsLastLoad t (printed t)
 shows-last-load t short c opened before r after d split e =
-    let (a, b, is) = line-among t short c opened before r after split in
-    (a, b, is ∙ ap (λ l. a ++ (l ++ b)) (show-line (formatNumber (c .format)) (length before + 2) d before r e))
+    let (a, b, is, in-front, behind) = line-among t short c opened before r after split in
+    (a, b, is ∙ ap (λ l. a ++ (l ++ b)) (show-line (formatNumber (c .format)) (length before + 2) d before r e), in-front, behind)

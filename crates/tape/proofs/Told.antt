@@ -85,19 +85,22 @@ numbered-whole (r ∷ rs) =
 pub one-line-each : (t : List ℕ) → length t ≤ 65536 → Numbered (length (readOf t)) 1 (printed t)
 one-line-each t h = rw (printed-told t h) (numbered-whole (readOf t))
 
--- the line of a record behind the first is among those that are printed
+-- the line of a record behind the first stands between those of the records before and after it
 pub line-among : (t : List ℕ) → length t ≤ 65536 → (c : Codes) → first t ≡ Ok c
     → (before : List Read) (r : Read) (after : List Read) → behindFirst t (Ok c) ≡ before ++ (r ∷ after)
     → (a : List ℕ) × (b : List ℕ)
     × (printed t ≡ a ++ (lineOf (formatIn c) (placesAfter (formatIn c) fresh before) (length before + 2) r ++ b))
+    × Numbered (suc (length before)) 1 a × Numbered (length after) (length before + 2 + 1) b
 line-among t h c opens before r after is =
     let f = formatIn c in
     let line = firstLine (Ok c) in (
       line ++ told f fresh 2 before,
-      _,
+      told f (placesOf f (placesAfter f fresh before) r) (length before + 2 + 1) after,
       printed-told t h
           ∙ ap (λ x. firstLine x ++ told (formatBy x) fresh 2 (behindFirst t x)) opens
           ∙ ap (λ rs. line ++ told f fresh 2 rs) is
           ∙ ap (λ l. line ++ l) (told-append f fresh 2 before (r ∷ after))
           ∙ sym (append-assoc line (told f fresh 2 before) _),
+      (line, told f fresh 2 before, refl, line-first (Ok c), numbered-told f fresh 2 before),
+      numbered-told f (placesOf f (placesAfter f fresh before) r) (length before + 2 + 1) after,
     )

@@ -1,5 +1,5 @@
 -- What is printed for a tape.
-use Prim.Native.Nat.{ℕ, zero, suc, _+_}
+use Prim.Native.Nat.{ℕ, zero, suc, _+_, _≤_}
 use mathlib.Core.Path.{_≡_}
 use mathlib.Core.Bool.{true, cond}
 use mathlib.Core.List.{List, [], _++_}
@@ -28,6 +28,10 @@ linesOf zero f ps n bs = []
 linesOf (suc i) f ps n bs =
     lineOf f ps n (front bs)
     ++ cond (endsOf f ps (front bs)) [] (linesOf i f (placesOf f ps (front bs)) (n + 1) (drop (bytesOf (front bs)) bs))
+
+-- all of them: each record but the last takes bytes, so one more than there are bytes is bound enough
+abbrev pub linesFrom : Format → List Slot → ℕ → List ℕ → List ℕ
+linesFrom f ps n bs = linesOf (suc (length bs)) f ps n bs
 
 -- the format that the codes of an opening record name
 abbrev pub formatIn : Codes → Format
@@ -58,3 +62,9 @@ pub record PrintedOne (f : Format) (run : OpenedRun) (ps qs : List Slot) (before
 abbrev pub Prints : Format → OpenedRun → List Slot → List Slot → List ℕ → List ℕ → Option OpenedRun → Type 0
 Prints f run ps qs before after (Some next) = GoesOn f run ps next × PrintedOne f run ps qs before after
 Prints f run ps qs before after None = (endsOf f ps (front (left (run .window))) ≡ true) × PrintedOne f run ps qs before after
+
+-- a run over a tape that is not too long, within it, which has counted no more records than bytes
+pub record InTape (run : OpenedRun) : Type 0 where
+  pub short : length (run .window .tape .now) ≤ 65536
+  pub within : run .window .at ≤ length (run .window .tape .now)
+  pub counted : run .window .number ≤ run .window .at

@@ -6,7 +6,7 @@ use mathlib.Core.List.{List, [], _∷_, _++_}
 use mathlib.Core.Logic.{_⊎_}
 use lib.Dec.{leb, ltb, eqb}
 use lib.ListN.{length, drop}
-use Rattle.std.specs.Results.{isOk, isErr, mapped}
+use Rattle.std.specs.Results.{isOk, mapped}
 use Rattle.std.specs.Written.{decimal}
 use Rattle.std.specs.declared.option.Option.{Option}
 use Rattle.std.specs.declared.option.Option.the-variants.{Some, None}
@@ -16,7 +16,6 @@ use Rattle.arith.specs.Pattern.{plainZero}
 use Rattle.arith.specs.Sequence.{andThen}
 use Rattle.arith.specs.declared.format.Format.{Format}
 use Rattle.bank.specs.Calls.{loaded, patterns}
-use Rattle.bank.specs.Slots.{Slot}
 use Rattle.bank.specs.declared.fault.Fault.{Fault}
 use Rattle.bank.specs.declared.fault.Fault.the-variants.{NoSuchPlace, EmptyPlace}
 use Rattle.bank.specs.declared.store.Shown.{Shown}
@@ -27,7 +26,7 @@ use Rattle.records.specs.declared.fault.RecordFault.{RecordFault}
 use Rattle.records.specs.declared.fault.RecordFault.the-variants.{MissingPart}
 use Rattle.run.specs.Lines.{shownAt}
 use Rattle.run.specs.States.{first}
-use Rattle.run.specs.Turns.{outcome, lineBy, placesOf, bytesOf}
+use Rattle.run.specs.Turns.{lineBy, bytesOf}
 use Rattle.run.specs.declared.refusal.Refusal.the-variants.{Bank}
 use Rattle.tape.specs.Printed.{formatIn, printed}
 
@@ -100,18 +99,14 @@ allWhole [] = true
 allWhole (Ok r ∷ rs) = allWhole rs
 allWhole (Err e ∷ rs) = false
 
--- Of a tape a ++ x, where a is what was passed over, x may be exchanged for any other y:
--- behind an accepted end always, and behind a missing part if a part is missing in y too.
+-- Of a tape a ++ x, where a is what was passed over, x may be exchanged for any other y: behind an accepted end and behind
+-- a first record that is refused always, and in front of a missing part if a part is missing in y too.
 abbrev pub NothingBehind : List ℕ → List ℕ → Type 0
 NothingBehind t text =
     (a x y : List ℕ) → t ≡ a ++ x → length a ≡ bytesIn (readOf t)
     → length t ≤ 65536 → length (a ++ y) ≤ 65536
     → (allWhole (readOf t) ≡ true) ⊎ (front y ≡ Err MissingPart)
     → printed (a ++ y) ≡ text
-
--- ---- a refused record changes no place
-abbrev pub RefusedChangesNothing : Type 0
-RefusedChangesNothing = (f : Format) (ps : List Slot) (r : Read) → isErr (outcome f ps r) ≡ true → placesOf f ps r ≡ ps
 
 -- ---- a show shows what was loaded last
 
@@ -146,12 +141,15 @@ loadedShown f None = Err EmptyPlace
 abbrev pub shownLast : Format → ℕ → Option Loaded → Result Shown Fault
 shownLast f d l = cond (ltb 15 d) (Err NoSuchPlace) (loadedShown f l)
 
--- The records `before` stand between the opening record and a show of the place d. Its line is part of what is printed:
--- its number, and the patterns of the last accepted load of d among `before`; or the refusal, where there is none.
+-- Between the opening record and a show of the place d stand the records `before`, and behind it the records `after`.
+-- Its line has its number and the patterns of the last accepted load of d among `before`, or the refusal, where there is none.
+-- In front of it stand the lines of the opening record and of `before`, and behind it those of `after`.
 abbrev pub ShowsLastLoad : List ℕ → List ℕ → Type 0
 ShowsLastLoad t text =
     length t ≤ 65536 → (c : Codes) → first t ≡ Ok c
     → (before : List Read) (r : Read) (after : List Read) (d : ℕ)
     → behindFirst t (Ok c) ≡ before ++ (r ∷ after) → andThen r (asked (formatIn c)) ≡ Ok (show d)
-    → (front-part : List ℕ) × (back-part : List ℕ)
-    × (text ≡ front-part ++ (lineBy (formatIn c) (length before + 2) (mapped (shownAt d) Bank (shownLast (formatIn c) d (lastLoad (formatIn c) d None before))) ++ back-part))
+    → (a : List ℕ) × (b : List ℕ)
+    × (text ≡ a ++ (lineBy (formatIn c) (length before + 2) (mapped (shownAt d) Bank (shownLast (formatIn c) d (lastLoad (formatIn c) d None before))) ++ b))
+    × Numbered (suc (length before)) 1 a
+    × Numbered (length after) (length before + 2 + 1) b

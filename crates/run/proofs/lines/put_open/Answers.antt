@@ -1,4 +1,3 @@
-use borrow.Author.Needs.{needs}
 use Rattle.run.proofs.Writes.{wrote-then}
 use Rattle.run.proofs.lines.put_open.Needs as need
 

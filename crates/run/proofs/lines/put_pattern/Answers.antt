@@ -1,10 +1,8 @@
-use mathlib.Core.Path.{_≡_, ap, subst}
-use Prim.Native.Nat.{ℕ, _/_, _+_, _≤_}
-use native.Mathlib.Omega.{arith}
+use mathlib.Core.Path.{_≡_, ap}
+use Prim.Native.Nat.{_/_}
 use borrow.Author.Needs.{needs}
 use Rattle.arith.specs.Format.{formatOf}
-use Rattle.run.specs.Lines.{field, patternDigits}
-use Rattle.run.specs.Text.{Wrote, hexadecimal}
+use Rattle.run.specs.Lines.{patternDigits}
 use Rattle.run.proofs.Writes.{wrote-then}
 use Rattle.run.proofs.lines.put_pattern.Needs as need
 

@@ -1,11 +1,16 @@
-use mathlib.Core.Path.{ap, _∙_}
-use mathlib.Core.List.{_++_}
-use Rattle.std.specs.Of.Vec.{vec-items}
+use mathlib.Core.Path.{subst}
+use mathlib.Core.List.{List}
+use Prim.Native.Nat.{ℕ}
+use Rattle.std.specs.Of.Vec.{vec-items, vec-cap}
+use Rattle.tape.specs.Added.{Adds}
 use Rattle.tape.proofs.Taken.{wrote-taken}
 use Rattle.tape.proofs.print.print_refusal.Needs as need
 
 pub returns : need.returns
 returns c =
-    let h = c .in-Ok .ensures tt in
-    let e = c .in-Continue-add-line .ensures tt in
-    e ∙ ap (λ l. vec-items (c .args .out) ++ l) (wrote-taken (h .1))
+    let out = c .args .out .now in
+    let after = vec-items (c .add-line .last .out) in
+    record {
+      adds = subst (λ (text : List ℕ). Adds (vec-cap out) (vec-items out) after text (c .add-line .result)) (wrote-taken (c .in-Ok .ensures tt .1)) (c .add-line .ensures .adds);
+      capacity = c .add-line .ensures .capacity;
+    }
