@@ -187,9 +187,10 @@ fn check_taking(rt: &LibcRuntime, opened: OpenedRun<'_>) -> io::Result<()> {
         return Ok(());
     };
     let records = run.records();
+    let touched = written(&enough);
     println!(
         rt,
-        "taking with 96 bytes: a line of {line} bytes, the last of {records}"
+        "taking with 96 bytes: a line of {line} bytes, {touched} bytes written, the last of {records}"
     )
 }
 
