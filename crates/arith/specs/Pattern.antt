@@ -58,6 +58,6 @@ encoded f x =
 abbrev pub plainZero : Format → ℕ → ℕ
 plainZero f n = cond (eqb n (2 ^ (f .width - 1))) 0 n
 
--- two accepted patterns of the same value are equal, but for the sign of zero: here of n, which stands for x, and of any other
+-- n stands for x: then any accepted pattern m with the same value is n itself, but for the sign of zero
 abbrev pub ToldApart : Format → ℕ → Parts → Type 0
 ToldApart f n x = (m : ℕ) (y : Parts) → decoded f m ≡ Ok y → value (f .precision) y ≈ value (f .precision) x → plainZero f m ≡ plainZero f n

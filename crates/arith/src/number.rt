@@ -12,7 +12,8 @@ pub struct Number<const C: u8> {
     pub(crate) negative: bool,
     pub(crate) significand: u32,
     pub(crate) exponent: i32,
-    // at most as many digits as the precision, and no fewer unless it is zero
+    // at most as many digits as the precision, and no fewer unless it is zero:
+    // 2 ^ p ≤ 2 · m says that 2 ^ (p − 1) ≤ m, without a subtraction
     ghost short: { significand < 2 ^ formatOf C .precision },
     ghost full: { (0 < significand → 2 ^ formatOf C .precision ≤ 2 * significand) },
     // zero has one form: it is not negative, and its exponent is 0

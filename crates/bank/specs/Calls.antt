@@ -30,7 +30,7 @@ loaded f d m n =
     cond (ltb 15 d) (Err NoSuchPlace)
     (andThen (numberBy f m) (λ re. andThen (numberBy f n) (λ im. Ok (filled (complex re im) 0))))
 
--- an accepted call that writes answers nothing but that
+-- a load answers only that it was accepted, or its refusal
 abbrev pub told : Result Slot Fault → Result (Unit {0}) Fault
 told (Ok s) = Ok tt
 told (Err e) = Err e

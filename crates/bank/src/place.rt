@@ -4,7 +4,7 @@ use arith::Complex;
 use arith::ComplexClone;
 use arith::Number;
 
-// How many roundings deep a number is: from 0 for a loaded one to 4,095.
+// A depth from 0 to 4,095. A loaded number has depth 0.
 #[derive(Clone, Copy)]
 pub struct Depth {
     pub(crate) count: u16,

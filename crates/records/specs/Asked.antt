@@ -54,6 +54,7 @@ askedBy f p Show = sized (rightLength f Show (length p)) (Ok (show (getD p 0 0))
 askedBy f p Note = sized (rightLength f Note (length p)) (cond (printable p) (Ok (note p)) (Err NotText))
 askedBy f p End = sized (rightLength f End (length p)) (Ok end)
 
+-- any record behind the opening record
 abbrev pub asked : Format → Framed → Result Asked RecordFault
 asked f r = andThen (kindOf (r .kind)) (askedBy f (r .payload))
 
@@ -72,6 +73,7 @@ openingBy p Show = Err OutOfOrder
 openingBy p Note = Err OutOfOrder
 openingBy p End = Err OutOfOrder
 
+-- any first record
 abbrev pub opening : Framed → Result Codes RecordFault
 opening r = andThen (kindOf (r .kind)) (openingBy (r .payload))
 
@@ -82,6 +84,7 @@ askedFor (records.Show d) = show d
 askedFor (records.Note t) = note (t .now)
 askedFor records.End = end
 
+-- the same for an answer that may be a refusal
 abbrev pub asking : Result Record RecordFault → Result Asked RecordFault
 asking (Ok r) = Ok (askedFor r)
 asking (Err e) = Err e

@@ -15,7 +15,7 @@ use Rattle.bank.specs.declared.fault.Fault.{Fault}
 use Rattle.records.specs.Asked.{Asked, load, show, note, end, asked}
 use Rattle.records.specs.Frames.{front}
 use Rattle.records.specs.declared.fault.RecordFault.{RecordFault}
-use Rattle.run.specs.Lines.{loaded}
+use Rattle.run.specs.Lines.{loadedAt}
 use Rattle.run.specs.States.{left, Takes}
 use Rattle.run.specs.Turns.{answered, placesIf, outcome}
 use Rattle.run.specs.declared.refusal.Refusal.the-variants.{Bank}
@@ -23,7 +23,7 @@ use Rattle.run.specs.declared.states.OpenedRun.{OpenedRun}
 use Rattle.run.specs.declared.states.Taking.{Taking}
 use Rattle.run.specs.declared.states.Taking.the-variants.{Running, Ended, NoRoom}
 
-unwritten : (ps : List Slot) (d : ℕ) (r : Result Slot Fault) → isErr (mapped (λ _. loaded d) Bank (told r)) ≡ true → written ps d r ≡ ps
+unwritten : (ps : List Slot) (d : ℕ) (r : Result Slot Fault) → isErr (mapped (λ _. loadedAt d) Bank (told r)) ≡ true → written ps d r ≡ ps
 unwritten ps d r e = grind arith
 
 unchanged : (f : Format) (ps : List Slot) (a : Result Asked RecordFault) → isErr (answered f ps a) ≡ true → placesIf f ps a ≡ ps

@@ -18,7 +18,7 @@ use Rattle.run.specs.declared.reply.Reply.the-variants as replies
 
 -- what an accepted record has done
 pub data Done : Type 0 where
-  loaded : ℕ → Done
+  loadedAt : ℕ → Done
   shownAt : ℕ → Shown → Done
   noted : List ℕ → Done
   ended : Done
@@ -49,7 +49,7 @@ openLine n c = start n (wordOf Open) ++ (field (decimal (formatNumber (c .format
 
 -- the line of a record behind it, in a format
 abbrev pub doneLine : Format → ℕ → Done → List ℕ
-doneLine f n (loaded d) = start n (wordOf Load) ++ (field (decimal d) ++ newline)
+doneLine f n (loadedAt d) = start n (wordOf Load) ++ (field (decimal d) ++ newline)
 doneLine f n (shownAt d s) =
     start n (wordOf Show)
     ++ (field (decimal d) ++ (field (hexadecimal (patternDigits f) (s .re)) ++ (field (hexadecimal (patternDigits f) (s .im)) ++ (field (decimal (s .depth)) ++ newline))))
@@ -62,7 +62,7 @@ refusalLine n e = start n (codes "no") ++ (field (decimal (numberOf e)) ++ (fiel
 
 -- what the code's replies stand for
 abbrev pub doneBy : Reply → Done
-doneBy (replies.Loaded d) = loaded d
+doneBy (replies.Loaded d) = loadedAt d
 doneBy (replies.Shown d s) = shownAt d s
 doneBy (replies.Noted t) = noted (t .now)
 doneBy replies.Ended = ended

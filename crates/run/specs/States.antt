@@ -64,6 +64,7 @@ pub record Untouched {Run : Type 0} (run same : Run) (refusal : Refusal) (before
 abbrev pub first : List ℕ → Result Codes RecordFault
 first bs = andThen (front bs) opening
 
+-- its line
 abbrev pub firstLine : Result Codes RecordFault → List ℕ
 firstLine (Ok c) = openLine 1 c
 firstLine (Err e) = refusalLine 1 (Record e)
@@ -86,6 +87,7 @@ pub record NotOpened (run : FreshRun) (e : EndedRun) : Type 0 where
   pub refused : isErr (first (left (run .window))) ≡ true
   pub records : e .records ≡ 1
 
+-- where opening leads the run, with what the buffer holds before and after
 abbrev pub Opens : FreshRun → List ℕ → List ℕ → Opening → Type 0
 Opens run before after (opens.Opened o n) = Opened run o × OpeningLine run before after n
 Opens run before after (opens.Ended e n) = NotOpened run e × OpeningLine run before after n
@@ -116,6 +118,7 @@ pub record Ends (f : Format) (run : OpenedRun) (ps : List Slot) (e : EndedRun) :
   pub ends : endsOf f ps (front (left (run .window))) ≡ true
   pub records : e .records ≡ nextNumber run
 
+-- where taking a record leads the run, with the places and what the buffer holds before and after
 abbrev pub Takes : Format → OpenedRun → List Slot → List Slot → List ℕ → List ℕ → Taking → Type 0
 Takes f run ps qs before after (takes.Running next n) = GoesOn f run ps next × Taken f run ps qs before after n
 Takes f run ps qs before after (takes.Ended e n) = Ends f run ps e × Taken f run ps qs before after n

@@ -14,7 +14,7 @@ use Rattle.bank.specs.Calls as calls
 use Rattle.records.specs.Asked.{Asked, load, show, note, end, asked}
 use Rattle.records.specs.Frames.{Framed}
 use Rattle.records.specs.declared.fault.RecordFault.{RecordFault}
-use Rattle.run.specs.Lines.{Done, loaded, shownAt, noted, ended, doneLine, refusalLine, doneBy}
+use Rattle.run.specs.Lines.{Done, loadedAt, shownAt, noted, ended, doneLine, refusalLine, doneBy}
 use Rattle.run.specs.declared.refusal.Refusal.{Refusal}
 use Rattle.run.specs.declared.refusal.Refusal.the-variants.{Record, Bank}
 use Rattle.run.specs.declared.reply.Reply.{Reply}
@@ -23,11 +23,12 @@ use Rattle.run.specs.declared.reply.Reply.{Reply}
 
 -- a record that could be read: the bank's answer, or its refusal, which the run passes on
 abbrev pub obeyed : Format → List Slot → Asked → Result Done Refusal
-obeyed f ps (load d m n) = mapped (λ _. loaded d) Bank (told (calls.loaded f d m n))
+obeyed f ps (load d m n) = mapped (λ _. loadedAt d) Bank (told (calls.loaded f d m n))
 obeyed f ps (show d) = mapped (shownAt d) Bank (shown f ps d)
 obeyed f ps (note t) = Ok (noted t)
 obeyed f ps end = Ok ended
 
+-- the places after it
 abbrev pub placesBy : Format → List Slot → Asked → List Slot
 placesBy f ps (load d m n) = written ps d (calls.loaded f d m n)
 placesBy f ps (show d) = ps
@@ -39,17 +40,21 @@ abbrev pub answered : Format → List Slot → Result Asked RecordFault → Resu
 answered f ps (Ok a) = obeyed f ps a
 answered f ps (Err e) = Err (Record e)
 
+-- the places after it: a record that was refused while it was read changes none
 abbrev pub placesIf : Format → List Slot → Result Asked RecordFault → List Slot
 placesIf f ps (Ok a) = placesBy f ps a
 placesIf f ps (Err e) = ps
 
--- ---- of the record at the front of what is left of the tape
+-- ---- of the record at the front of what is left of the tape, which is a whole record or the refusal of a missing part
+-- what comes of it
 abbrev pub outcome : Format → List Slot → Result Framed RecordFault → Result Done Refusal
 outcome f ps r = answered f ps (andThen r (asked f))
 
+-- the places after it
 abbrev pub placesOf : Format → List Slot → Result Framed RecordFault → List Slot
 placesOf f ps r = placesIf f ps (andThen r (asked f))
 
+-- its line, by what comes of it
 abbrev pub lineBy : Format → ℕ → Result Done Refusal → List ℕ
 lineBy f n (Ok d) = doneLine f n d
 lineBy f n (Err e) = refusalLine n e
@@ -59,7 +64,7 @@ lineOf f ps n r = lineBy f n (outcome f ps r)
 
 -- the run ends with an accepted end, and where a part is missing
 abbrev pub isEnd : Done → Bool
-isEnd (loaded d) = false
+isEnd (loadedAt d) = false
 isEnd (shownAt d s) = false
 isEnd (noted t) = false
 isEnd ended = true

@@ -6,7 +6,7 @@ ghost use Rattle.std.specs.Results.{Cases};
 ghost use Rattle.std.specs.Written.{decimal};
 ghost use Rattle.std.specs.declared.result.Result.the-variants.{Ok, Err};
 ghost use Rattle.arith.specs.Format.{formatOf};
-ghost use Rattle.run.specs.Lines.{start, field, textField, openLine, doneLine, refusalLine, loaded, shownAt, noted, ended, patternDigits, doneBy, ShortText};
+ghost use Rattle.run.specs.Lines.{start, field, textField, openLine, doneLine, refusalLine, loadedAt, shownAt, noted, ended, patternDigits, doneBy, ShortText};
 ghost use Rattle.run.specs.States.{roomFor};
 ghost use Rattle.run.specs.Text.{Wrote, hexadecimal};
 use crate::refusal::Refusal;
@@ -77,7 +77,7 @@ fn put_text(line: &mut [u8], at: usize, text: &[u8]) -> usize
 
 fn put_load<const C: u8>(line: &mut [u8], number: u32, place: u8) -> usize
     requires { ⌜ 96 ≤ length (now line) ⌝ }
-    ensures { λ r. ⌜ Wrote (now (line .entry)) (now (line .exit)) 0 r (doneLine (formatOf C) number (loaded place)) ⌝ }
+    ensures { λ r. ⌜ Wrote (now (line .entry)) (now (line .exit)) 0 r (doneLine (formatOf C) number (loadedAt place)) ⌝ }
 {
     let at = put_start(line, number, Kind::Load.word());
     let at = put_number(line, at, place as u32);

@@ -267,7 +267,7 @@ impl<'a> OpenedRun<'a> {
 }
 
 impl EndedRun {
-    // How many records were read, the refused ones among them.
+    // The number of the last record, which is how many lines the run gave.
     pub fn records(&self) -> u32
         ensures { λ r. ⌜ r ≡ now (self .entry) .records ⌝ }
     {

@@ -18,7 +18,7 @@ use Rattle.records.specs.Asked.{askedBy}
 use Rattle.records.specs.Kinds.{rightLength}
 use Rattle.records.specs.declared.kind.Kind.{Kind}
 use Rattle.records.specs.declared.kind.Kind.the-variants.{Open, Load, Show, Note, End}
-use Rattle.run.specs.Lines.{loaded}
+use Rattle.run.specs.Lines.{loadedAt}
 use Rattle.run.specs.Turns.{answered, acceptedEnd, endsOf}
 use Rattle.run.specs.declared.refusal.Refusal.the-variants.{Bank}
 use Rattle.tape.specs.Reading.{Read, isLast}
@@ -30,7 +30,7 @@ isEnd Show = false
 isEnd Note = false
 isEnd End = true
 
-load-goes-on : (d : ℕ) (r : Result (Unit {0}) Fault) → acceptedEnd (mapped (λ _. loaded d) Bank r) ≡ false
+load-goes-on : (d : ℕ) (r : Result (Unit {0}) Fault) → acceptedEnd (mapped (λ _. loadedAt d) Bank r) ≡ false
 load-goes-on d (Ok u) = refl
 load-goes-on d (Err e) = refl
 

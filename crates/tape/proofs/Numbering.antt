@@ -18,7 +18,7 @@ use Rattle.records.specs.declared.codes.Codes.{Codes}
 use Rattle.records.specs.declared.fault.RecordFault.{RecordFault}
 use Rattle.records.specs.declared.kind.Kind.{Kind}
 use Rattle.records.specs.declared.kind.Kind.the-variants.{Open, Load, Show, Note, End}
-use Rattle.run.specs.Lines.{Done, loaded, shownAt, noted, ended, start, field, newline, textField, patternDigits, refusalLine}
+use Rattle.run.specs.Lines.{Done, loadedAt, shownAt, noted, ended, start, field, newline, textField, patternDigits, refusalLine}
 use Rattle.run.specs.Refusals.{numberOf}
 use Rattle.run.specs.States.{firstLine}
 use Rattle.run.specs.Text.{hexadecimal}
@@ -69,14 +69,14 @@ line-first (Err e) = line-refused 1 (Record e)
 
 -- the text that a line repeats
 abbrev repeated : Result Done Refusal → List ℕ
-repeated (Ok (loaded d)) = []
+repeated (Ok (loadedAt d)) = []
 repeated (Ok (shownAt d s)) = []
 repeated (Ok (noted t)) = t
 repeated (Ok ended) = []
 repeated (Err e) = []
 
 line-by : (f : Format) (n : ℕ) (r : Result Done Refusal) → unbroken (repeated r) ≡ true → Line n (lineBy f n r)
-line-by f n (Ok (loaded d)) p = line-started n (wordOf Load) refl (closed-number d closed-newline)
+line-by f n (Ok (loadedAt d)) p = line-started n (wordOf Load) refl (closed-number d closed-newline)
 line-by f n (Ok (shownAt d s)) p =
     line-started n (wordOf Show) refl
     (closed-number d

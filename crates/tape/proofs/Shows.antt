@@ -25,7 +25,7 @@ use Rattle.bank.specs.declared.fault.Fault.{Fault}
 use Rattle.records.specs.Asked.{Asked, load, show, note, end, asked}
 use Rattle.records.specs.declared.fault.RecordFault.{RecordFault}
 use Rattle.run.specs.Turns.{placesIf}
-use Rattle.tape.specs.Reading.{Read, Loaded, loadAsked, later, lastLoad, loadedShown, shownLast}
+use Rattle.tape.specs.Reading.{Read, PatternPair, loadAsked, later, lastLoad, loadedShown, shownLast}
 use Rattle.tape.proofs.After.{placesAfter}
 
 same-unless : {X : Type 0} (b : Bool) (x y z : X) → (b ≡ false → y ≡ z) → cond b x y ≡ cond b x z
@@ -44,7 +44,7 @@ module _ (f : Format) (s : Sound f) where
 
   module _ (d : ℕ) where
     -- ---- the place d is there, and what it holds is shown as the last load of it, if there is one
-    record Agrees (ps : List Slot) (l : Option Loaded) : Type 0 where
+    record Agrees (ps : List Slot) (l : Option PatternPair) : Type 0 where
       there : d < length ps
       same : shownOf f (getD ps d empty) ≡ loadedShown f l
 
@@ -52,18 +52,18 @@ module _ (f : Format) (s : Sound f) where
     at-first h = record { there = h; same = ap (shownOf f) (getD-replicate 16 d empty empty h) }
 
     -- a load of the place p, with what comes of it
-    after-load : {ps : List Slot} {l : Option Loaded} (p m n : ℕ) (r : Result Slot Fault) → made r (Shows m n) → Agrees ps l → Agrees (written ps p r) (later l (cond (eqb p d && isOk r) (Some (record { re = m; im = n })) None))
+    after-load : {ps : List Slot} {l : Option PatternPair} (p m n : ℕ) (r : Result Slot Fault) → made r (Shows m n) → Agrees ps l → Agrees (written ps p r) (later l (cond (eqb p d && isOk r) (Some (record { re = m; im = n })) None))
     after-load {ps} p m n (Ok t) k h = record { there = lt-length-set ps p t (h .there); same = grind (arith, getD-set-same, getD-set-other) }
     after-load p m n (Err e) k h = record { there = h .there; same = grind arith }
 
-    after-record : {ps : List Slot} {l : Option Loaded} (a : Result Asked RecordFault) → Agrees ps l → Agrees (placesIf f ps a) (later l (loadAsked f d a))
+    after-record : {ps : List Slot} {l : Option PatternPair} (a : Result Asked RecordFault) → Agrees ps l → Agrees (placesIf f ps a) (later l (loadAsked f d a))
     after-record (Ok (load p m n)) h = after-load p m n (loaded f p m n) (shows p m n) h
     after-record (Ok (show p)) h = h
     after-record (Ok (note t)) h = h
     after-record (Ok end) h = h
     after-record (Err e) h = h
 
-    after-records : (rs : List Read) {ps : List Slot} {l : Option Loaded} → Agrees ps l → Agrees (placesAfter f ps rs) (lastLoad f d l rs)
+    after-records : (rs : List Read) {ps : List Slot} {l : Option PatternPair} → Agrees ps l → Agrees (placesAfter f ps rs) (lastLoad f d l rs)
     after-records [] h = h
     after-records (r ∷ rs) h = after-records rs (after-record (andThen r (asked f)) h)
 

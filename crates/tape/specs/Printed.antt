@@ -51,6 +51,7 @@ abbrev pub printedIf : List ℕ → Result (Unit {0}) Refusal → List ℕ
 printedIf t (Ok u) = runLines t
 printedIf t (Err e) = refusalLine 0 e
 
+-- what is printed for a tape
 abbrev pub printed : List ℕ → List ℕ
 printed t = printedIf t (shortTape (length t))
 
@@ -59,6 +60,7 @@ pub record PrintedOne (f : Format) (run : OpenedRun) (ps qs : List Slot) (before
   pub text : after ≡ before ++ lineOf f ps (nextNumber run) (front (left (run .window)))
   pub places : qs ≡ placesOf f ps (front (left (run .window)))
 
+-- and the run goes on, or ends
 abbrev pub Prints : Format → OpenedRun → List Slot → List Slot → List ℕ → List ℕ → Option OpenedRun → Type 0
 Prints f run ps qs before after (Some next) = GoesOn f run ps next × PrintedOne f run ps qs before after
 Prints f run ps qs before after None = (endsOf f ps (front (left (run .window))) ≡ true) × PrintedOne f run ps qs before after

@@ -111,12 +111,12 @@ NothingBehind t text =
 -- ---- a show shows what was loaded last
 
 -- two patterns as they stand on the tape
-pub record Loaded : Type 0 where
+pub record PatternPair : Type 0 where
   pub re : ℕ
   pub im : ℕ
 
 -- whether a record loads a place, and with what: a refused load does not
-abbrev pub loadAsked : Format → ℕ → Result Asked RecordFault → Option Loaded
+abbrev pub loadAsked : Format → ℕ → Result Asked RecordFault → Option PatternPair
 loadAsked f d (Ok (load p m n)) = cond (eqb p d && isOk (loaded f p m n)) (Some (record { re = m; im = n })) None
 loadAsked f d (Ok (show p)) = None
 loadAsked f d (Ok (note t)) = None
@@ -124,21 +124,21 @@ loadAsked f d (Ok end) = None
 loadAsked f d (Err e) = None
 
 -- the later of two, if there is any
-abbrev pub later : Option Loaded → Option Loaded → Option Loaded
+abbrev pub later : Option PatternPair → Option PatternPair → Option PatternPair
 later old (Some new) = Some new
 later old None = old
 
 -- the last accepted load of a place among some records, the earliest of them first; `sofar` is the one before them
-abbrev pub lastLoad : Format → ℕ → Option Loaded → List Read → Option Loaded
+abbrev pub lastLoad : Format → ℕ → Option PatternPair → List Read → Option PatternPair
 lastLoad f d sofar [] = sofar
 lastLoad f d sofar (r ∷ rs) = lastLoad f d (later sofar (loadAsked f d (andThen r (asked f)))) rs
 
 -- what a show then answers: the patterns that were loaded, without the sign of a zero, and the depth 0
-abbrev pub loadedShown : Format → Option Loaded → Result Shown Fault
+abbrev pub loadedShown : Format → Option PatternPair → Result Shown Fault
 loadedShown f (Some l) = Ok (patterns (plainZero f (l .re)) (plainZero f (l .im)) 0)
 loadedShown f None = Err EmptyPlace
 
-abbrev pub shownLast : Format → ℕ → Option Loaded → Result Shown Fault
+abbrev pub shownLast : Format → ℕ → Option PatternPair → Result Shown Fault
 shownLast f d l = cond (ltb 15 d) (Err NoSuchPlace) (loadedShown f l)
 
 -- Between the opening record and a show of the place d stand the records `before`, and behind it the records `after`.
