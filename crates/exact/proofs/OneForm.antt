@@ -1,6 +1,7 @@
 -- Numbers of precision p that have the same value have the same parts.
 use Prim.Native.Nat.{ℕ, _+_, _-_, _*_, _^_, _≤_, _<_}
 use mathlib.Core.Path.{_≡_, sym, ap, _∙_}
+use mathlib.Core.Bool.{false}
 use mathlib.Core.Logic.{_⊎_, inl, inr}
 use native.Mathlib.Omega.{arith}
 use native.Mathlib.Decide.{decLe}
@@ -9,8 +10,16 @@ use lib.Pow.{pow-pos, pow-add}
 use lib.IntN.{ℤ, pos, _+ℤ_, _-ℤ_, _*ℤ_, natAbs}
 use borrow.Author.Differences.{ints, up, down, same-in}
 use Rattle.exact.specs.Exact.{two^, _≈_, signedBy}
-use Rattle.exact.specs.Parts.{Parts, parts, value, Canonical}
+use Rattle.exact.specs.Parts.{Parts, parts, value}
 use Rattle.exact.proofs.Scaled.{isNegative, cross, abs-cross, negative-cross}
+
+-- The one form of a number of precision p: the significand has exactly p digits;
+-- or it is zero, which has no sign and the exponent 0.
+pub record Canonical (p : ℕ) (x : Parts) : Type 0 where
+  pub short : x .significand < 2 ^ p
+  pub full : 0 < x .significand → 2 ^ p ≤ 2 * x .significand
+  pub plain : x .significand ≡ 0 → x .negative ≡ false
+  pub flat : x .significand ≡ 0 → x .exponent ≡ pos 0
 
 -- ---- m · 2 ^ i = n · 2 ^ j, where m and n have p digits each: the digits and the powers agree
 power-below : (p m n i j : ℕ) → m < 2 ^ p → 2 ^ p ≤ 2 * n → i < j → m * 2 ^ i ≡ n * 2 ^ j → ⊥

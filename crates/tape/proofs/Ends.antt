@@ -6,30 +6,20 @@ use mathlib.Core.List.{List, [], _∷_}
 use native.Mathlib.Nat.{le-of-suc-le-suc, lt-of-lt-of-le, not-suc-le-zero}
 use native.Mathlib.Omega.{arith}
 use lib.ListN.{length, drop}
-use borrow.Author.Tests.{clash}
 use Rattle.std.specs.Results.{isOk}
 use Rattle.std.specs.declared.result.Result.{Result}
 use Rattle.std.specs.declared.result.Result.the-variants.{Ok, Err}
-use Rattle.arith.specs.Sequence.{andThen}
-use Rattle.records.specs.Asked.{opening}
 use Rattle.records.specs.Frames.{front}
 use Rattle.records.specs.declared.codes.Codes.{Codes}
 use Rattle.records.specs.declared.fault.RecordFault.{RecordFault}
 use Rattle.run.specs.States.{first}
 use Rattle.run.specs.Turns.{bytesOf}
 use Rattle.tape.specs.Reading.{Read, isLast, recordsOf, Finished, ReadOut}
-use Rattle.tape.proofs.Fronts.{within, drop-shorter}
+use Rattle.tape.proofs.Fronts.{whole-shorter, whole-if-opening}
 
-whole-shorter : (bs : List ℕ) (r : Read) → front bs ≡ r → isOk r ≡ true → length (drop (bytesOf r) bs) < length bs
-whole-shorter bs (Ok r) q e = drop-shorter (length (r .payload)) bs (within bs r q)
-whole-shorter bs (Err x) q e = absurd (clash e)
-
--- a record that is not the last is whole, and so is one that opens a run
+-- a record that is not the last is whole
 whole-if-not-last : (r : Read) → isLast r ≡ false → isOk r ≡ true
 whole-if-not-last r e = grind arith
-
-whole-if-opening : (r : Read) (c : Codes) → andThen r opening ≡ Ok c → isOk r ≡ true
-whole-if-opening r c e = grind arith
 
 finished-more : (r : Read) (rs : List Read) → Finished rs → Finished (r ∷ rs)
 finished-more r [] h = absurd h

@@ -3,14 +3,22 @@ use Prim.Native.Nat.{ℕ, _+_, _-_, _*_, _≤_, _<_}
 use mathlib.Core.Path.{_≡_, sym, ap, ap₂, _∙_}
 use mathlib.Core.List.{List, _++_}
 use native.Mathlib.Omega.{arith}
+use mathlib.Core.Bool.{true}
 use lib.Dec.{lit≤}
 use lib.ListN.{length, take, drop, length-append, length-drop}
+use borrow.Author.Tests.{clash}
+use Rattle.std.specs.Results.{isOk}
 use Rattle.std.specs.declared.result.Result.the-variants.{Ok, Err}
 use Rattle.std.proofs.shelf.Lists.{getD-append-left, take-append-le, drop-append-le, length-take-le}
 use Rattle.std.proofs.shelf.Ways.{tells}
+use Rattle.arith.specs.Sequence.{andThen}
+use Rattle.records.specs.Asked.{opening}
 use Rattle.records.specs.Frames.{Framed, word16, front}
+use Rattle.records.specs.declared.codes.Codes.{Codes}
 use Rattle.records.specs.declared.fault.RecordFault.{RecordFault}
 use Rattle.records.specs.declared.fault.RecordFault.the-variants.{MissingPart}
+use Rattle.run.specs.Turns.{bytesOf}
+use Rattle.tape.specs.Reading.{Read}
 
 -- a record that is not whole has only one refusal
 pub only-missing : (bs : List ℕ) (e : RecordFault) → front bs ≡ Err e → e ≡ MissingPart
@@ -33,7 +41,7 @@ room bs s h = behind-four s (length bs) (length (drop 4 bs)) h (length-drop 4 bs
 size : (bs : List ℕ) (r : Framed) → Whole bs r → length (r .payload) ≡ word16 bs 0
 size bs r w = ap length (w .cut) ∙ length-take-le (word16 bs 0) (drop 4 bs) (room bs (word16 bs 0) (w .fits))
 
-pub within : (bs : List ℕ) (r : Framed) → front bs ≡ Ok r → 4 + length (r .payload) ≤ length bs
+within : (bs : List ℕ) (r : Framed) → front bs ≡ Ok r → 4 + length (r .payload) ≤ length bs
 within bs r q = let w = whole bs r q in rw (size bs r w) (w .fits)
 
 -- fewer bytes are left behind a record
@@ -74,3 +82,16 @@ front-kept a x y r q h =
     let size-same = word16-append a x 0 (leading 0 (length (r .payload)) (length a) (lit≤ tt) h) in
     let fits : 4 + word16 a 0 ≤ length a = rw (size (a ++ x) r (whole (a ++ x) r q) ∙ size-same) at h in
     front-append a y fits ∙ sym (front-append a x fits) ∙ q
+
+-- ---- a whole record takes bytes
+pub whole-bytes : (r : Read) → isOk r ≡ true → 4 ≤ bytesOf r
+whole-bytes (Ok r) e = omega arith
+whole-bytes (Err x) e = absurd (clash e)
+
+pub whole-shorter : (bs : List ℕ) (r : Read) → front bs ≡ r → isOk r ≡ true → length (drop (bytesOf r) bs) < length bs
+whole-shorter bs (Ok r) q e = drop-shorter (length (r .payload)) bs (within bs r q)
+whole-shorter bs (Err x) q e = absurd (clash e)
+
+-- a record that opens a run is whole
+pub whole-if-opening : (r : Read) (c : Codes) → andThen r opening ≡ Ok c → isOk r ≡ true
+whole-if-opening r c e = grind arith

@@ -1,18 +1,15 @@
 -- What a run prints, by its tape: the line of its first record, and those behind it.
-use Prim.Native.Nat.{ℕ, _+_, _≤_, _<_}
+use Prim.Native.Nat.{ℕ, _+_, _<_}
 use mathlib.Core.Path.{_≡_, refl, sym, ap, ap₂, _∙_}
 use mathlib.Core.Bool.{true}
 use mathlib.Core.List.{List, [], _++_, append-nil}
-use native.Mathlib.Omega.{arith}
 use lib.ListN.{length, drop}
 use borrow.Author.Tests.{clash}
 use Rattle.std.proofs.shelf.Lists.{drop-drop}
 use Rattle.std.specs.Results.{isErr}
 use Rattle.std.specs.declared.result.Result.{Result}
 use Rattle.std.specs.declared.result.Result.the-variants.{Ok, Err}
-use Rattle.arith.specs.Sequence.{andThen}
 use Rattle.bank.specs.Slots.{fresh}
-use Rattle.records.specs.Asked.{opening}
 use Rattle.records.specs.Frames.{front}
 use Rattle.records.specs.declared.codes.Codes.{Codes}
 use Rattle.records.specs.declared.fault.RecordFault.{RecordFault}
@@ -21,14 +18,8 @@ use Rattle.run.specs.Turns.{bytesOf}
 use Rattle.run.specs.declared.states.FreshRun.{FreshRun}
 use Rattle.run.specs.declared.states.OpenedRun.{OpenedRun}
 use Rattle.tape.specs.Printed.{linesFrom, formatIn, linesBehind, runLines}
-use Rattle.tape.specs.Reading.{Read}
-use Rattle.tape.proofs.Fronts.{within, drop-shorter}
+use Rattle.tape.proofs.Fronts.{whole-shorter, whole-if-opening}
 use Rattle.tape.proofs.Turning.{lines-enough}
-
--- a record that opens a run takes bytes
-opening-bytes : (t : List ℕ) (r : Read) (c : Codes) → front t ≡ r → andThen r opening ≡ Ok c → (4 ≤ bytesOf r) × (length (drop (bytesOf r) t) < length t)
-opening-bytes t (Ok r) c e opens = (omega arith, drop-shorter (length (r .payload)) t (within t r e))
-opening-bytes t (Err x) c e opens = absurd (let z : _≡_ {A = ℕ} 0 1 = cc in omega arith)
 
 module _ (run : FreshRun) (o : OpenedRun) (p : Opened run o) where
   abbrev tape : List ℕ
@@ -40,15 +31,15 @@ module _ (run : FreshRun) (o : OpenedRun) (p : Opened run o) where
   left-is : left (o .window) ≡ drop (bytesOf (front tape)) tape
   left-is = ap₂ drop (p .at) same-tape ∙ sym (drop-drop (bytesOf (front tape)) (run .window .at) (run .window .tape .now))
 
-  bytes : (4 ≤ bytesOf (front tape)) × (length (drop (bytesOf (front tape)) tape) < length tape)
-  bytes = opening-bytes tape (front tape) (o .codes) refl (p .codes)
+  shorter : length (drop (bytesOf (front tape)) tape) < length tape
+  shorter = whole-shorter tape (front tape) refl (whole-if-opening (front tape) (o .codes) (p .codes))
 
   -- the lines behind the first
   pub opened-lines : runLines tape ≡ firstLine (first tape) ++ linesFrom (formatIn (o .codes)) fresh (o .window .number + 1) (left (o .window))
   opened-lines =
       ap (λ l. firstLine (first tape) ++ l) (
       ap (linesBehind tape) (p .codes)
-      ∙ sym (lines-enough (length tape) (formatIn (o .codes)) fresh 2 (drop (bytesOf (front tape)) tape) (bytes .1))
+      ∙ sym (lines-enough (length tape) (formatIn (o .codes)) fresh 2 (drop (bytesOf (front tape)) tape) shorter)
       ∙ ap₂ (λ m bs. linesFrom (formatIn (o .codes)) fresh (m + 1) bs) (sym (p .number)) (sym left-is))
 
 none-behind : (t : List ℕ) (r : Result Codes RecordFault) → isErr r ≡ true → linesBehind t r ≡ []

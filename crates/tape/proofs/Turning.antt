@@ -7,6 +7,7 @@ use native.Mathlib.Omega.{arith}
 use lib.ListN.{length, drop}
 use borrow.Author.Tests.{clash}
 use Rattle.std.proofs.shelf.Lists.{drop-drop}
+use Rattle.std.specs.Results.{isOk}
 use Rattle.std.specs.declared.result.Result.the-variants.{Ok, Err}
 use Rattle.arith.specs.declared.format.Format.{Format}
 use Rattle.bank.specs.Slots.{Slot}
@@ -16,12 +17,15 @@ use Rattle.run.specs.Turns.{lineOf, placesOf, endsOf, bytesOf}
 use Rattle.run.specs.declared.states.OpenedRun.{OpenedRun}
 use Rattle.tape.specs.Printed.{linesOf, linesFrom, InTape}
 use Rattle.tape.specs.Reading.{Read}
-use Rattle.tape.proofs.Fronts.{within, drop-shorter}
+use Rattle.tape.proofs.Fronts.{whole-bytes, whole-shorter}
 
--- ---- a record that does not end the run takes bytes, and they are there
-whole-bytes : (f : Format) (ps : List Slot) (bs : List ℕ) (r : Read) → front bs ≡ r → endsOf f ps r ≡ false → (4 ≤ bytesOf r) × (length (drop (bytesOf r) bs) < length bs)
-whole-bytes f ps bs (Ok r) e goes = (omega arith, drop-shorter (length (r .payload)) bs (within bs r e))
-whole-bytes f ps bs (Err x) e goes = absurd (clash (sym goes))
+-- a record that does not end the run is whole
+whole-if-goes : (f : Format) (ps : List Slot) (r : Read) → endsOf f ps r ≡ false → isOk r ≡ true
+whole-if-goes f ps (Ok r) e = refl
+whole-if-goes f ps (Err x) e = absurd (clash (sym e))
+
+rest-shorter : (f : Format) (ps : List Slot) (bs : List ℕ) → endsOf f ps (front bs) ≡ false → length (drop (bytesOf (front bs)) bs) < length bs
+rest-shorter f ps bs e = whole-shorter bs (front bs) refl (whole-if-goes f ps (front bs) e)
 
 -- ---- so any number of turns above the number of bytes is enough
 fewer : (m l i : ℕ) → m < l → l < suc i → m < i
@@ -33,7 +37,7 @@ others-enough : (b : Bool) (i j : ℕ) (f : Format) (ps : List Slot) (n : ℕ) (
     → cond b [] (linesOf i f (placesOf f ps (front bs)) (n + 1) (drop (bytesOf (front bs)) bs)) ≡ cond b [] (linesOf j f (placesOf f ps (front bs)) (n + 1) (drop (bytesOf (front bs)) bs))
 others-enough true i j f ps n bs e h k shorter = refl
 others-enough false i j f ps n bs e h k shorter =
-    let less = whole-bytes f ps bs (front bs) refl e .1 in
+    let less = rest-shorter f ps bs e in
     shorter (drop (bytesOf (front bs)) bs) (fewer _ (length bs) i less h) (fewer _ (length bs) j less k)
 
 enough : (i j : ℕ) (f : Format) (ps : List Slot) (n : ℕ) (bs : List ℕ) → length bs < i → length bs < j → linesOf i f ps n bs ≡ linesOf j f ps n bs
@@ -50,7 +54,7 @@ lines-more : (f : Format) (ps : List Slot) (n : ℕ) (bs : List ℕ) → endsOf 
 lines-more f ps n bs goes =
     let rest = drop (bytesOf (front bs)) bs in
     ap (λ b. lineOf f ps n (front bs) ++ cond b [] (linesOf (length bs) f (placesOf f ps (front bs)) (n + 1) rest)) goes
-    ∙ ap (λ l. lineOf f ps n (front bs) ++ l) (sym (lines-enough (length bs) f (placesOf f ps (front bs)) (n + 1) rest (whole-bytes f ps bs (front bs) refl goes .1)))
+    ∙ ap (λ l. lineOf f ps n (front bs) ++ l) (sym (lines-enough (length bs) f (placesOf f ps (front bs)) (n + 1) rest (rest-shorter f ps bs goes)))
 
 lines-last : (f : Format) (ps : List Slot) (n : ℕ) (bs : List ℕ) → endsOf f ps (front bs) ≡ true → linesFrom f ps n bs ≡ lineOf f ps n (front bs)
 lines-last f ps n bs ends =
@@ -92,7 +96,7 @@ module _ (f : Format) (run : OpenedRun) (ps : List Slot) (inside : InTape run) w
         ap₂ drop (goes-on .at) same-tape ∙ sym (drop-drop (bytesOf (front bs)) (run .window .at) (run .window .tape .now))
 
     bytes : 4 ≤ bytesOf (front bs)
-    bytes = whole-bytes f ps bs (front bs) refl (goes-on .goes) .0
+    bytes = whole-bytes (front bs) (whole-if-goes f ps (front bs) (goes-on .goes))
 
     pub run-more : (qs : List Slot) → qs ≡ placesOf f ps (front bs) → linesFrom f ps n bs ≡ lineOf f ps (nextNumber run) (front bs) ++ linesFrom f qs (next .window .number + 1) (left (next .window))
     run-more qs e =
