@@ -76,6 +76,7 @@ fn normal<const C: u8>(fields: Fields) -> Number<C>
     }
 }
 
+// Zero in its one form.
 fn zero<const C: u8>() -> Number<C>
     ensures { λ r. ⌜ partsOf r ≡ zeroParts ⌝ }
 {

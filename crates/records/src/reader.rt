@@ -105,6 +105,7 @@ fn read_note<'a, const C: u8>(payload: &'a [u8]) -> Result<Record<'a>, RecordFau
     Ok(Record::Note { text: payload })
 }
 
+// A show's payload: the place.
 fn read_show<'a, const C: u8>(payload: &'a [u8]) -> Result<Record<'a>, RecordFault>
     ensures asks { λ r. ⌜ asking r ≡ askedBy (formatOf C) (now (payload .entry)) Show ⌝ }
     ensures part { λ r. ⌜ made r (PartOf (formatOf C) (payload .entry)) ⌝ }
@@ -116,6 +117,7 @@ fn read_show<'a, const C: u8>(payload: &'a [u8]) -> Result<Record<'a>, RecordFau
     Ok(Record::Show { place: *place })
 }
 
+// An end's payload, which is empty.
 fn read_end<'a, const C: u8>(payload: &'a [u8]) -> Result<Record<'a>, RecordFault>
     ensures asks { λ r. ⌜ asking r ≡ askedBy (formatOf C) (now (payload .entry)) End ⌝ }
     ensures part { λ r. ⌜ made r (PartOf (formatOf C) (payload .entry)) ⌝ }

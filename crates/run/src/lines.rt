@@ -43,6 +43,7 @@ fn put_start(line: &mut [u8], number: u32, word: &[u8]) -> usize
     put_bytes(line, at, word)
 }
 
+// A number with a space in front.
 fn put_number(line: &mut [u8], at: usize, n: u32) -> usize
     requires { ⌜ at + 11 ≤ length (now line) ⌝ }
     ensures wrote { λ r. ⌜ Wrote (now (line .entry)) (now (line .exit)) at r (field (decimal n)) ⌝ }
@@ -52,6 +53,7 @@ fn put_number(line: &mut [u8], at: usize, n: u32) -> usize
     put_decimal(line, at, n)
 }
 
+// A pattern of the format with the code C, with a space in front.
 fn put_pattern<const C: u8>(line: &mut [u8], at: usize, pattern: u32) -> usize
     requires { ⌜ at + 9 ≤ length (now line) ⌝ }
     ensures wrote { λ r. ⌜ Wrote (now (line .entry)) (now (line .exit)) at r (field (hexadecimal (patternDigits (formatOf C)) pattern)) ⌝ }
@@ -75,6 +77,7 @@ fn put_text(line: &mut [u8], at: usize, text: &[u8]) -> usize
     put_bytes(line, at, text)
 }
 
+// The lines of accepted records behind the opening one, each with its length.
 fn put_load<const C: u8>(line: &mut [u8], number: u32, place: u8) -> usize
     requires { ⌜ 96 ≤ length (now line) ⌝ }
     ensures { λ r. ⌜ Wrote (now (line .entry)) (now (line .exit)) 0 r (doneLine (formatOf C) number (loadedAt place)) ⌝ }

@@ -133,6 +133,7 @@ pub fn print_tape(tape: &[u8], out: &mut Vec<u8>) -> Result<(), AllocError>
     ensures read_out { λ _. ⌜ ReadOut (now (tape .entry)) (first (now (tape .entry))) ⌝ }
     ensures nothing_behind { λ r. ⌜ made r (λ _. NothingBehind (now (tape .entry)) (added (vec-items (now (out .entry))) (vec-items (now (out .exit))))) ⌝ }
     ensures shows_last_load { λ r. ⌜ made r (λ _. ShowsLastLoad (now (tape .entry)) (added (vec-items (now (out .entry))) (vec-items (now (out .exit))))) ⌝ }
+    ensures capacity { λ _. ⌜ vec-cap (now (out .entry)) ≤ vec-cap (now (out .exit)) ⌝ }
 {
     print_all(tape, out)
 }

@@ -36,4 +36,5 @@ returns c =
       read-out = read-out t (first t) refl;
       nothing-behind = law (NothingBehind t) (nothing-behind t);
       shows-last-load = law (ShowsLastLoad t) (shows-last-load t);
+      capacity = c .print-all .ensures .capacity;
     }
