@@ -2,6 +2,8 @@
 // sums and differences of complex numbers.
 // Read format.rt, number.rt and pattern.rt beside specs/Format.antt and specs/Pattern.antt, and then term.rt, steps.rt and complex_sums.rt
 // beside specs/Term.antt, specs/Step.antt and specs/Complex.antt, which say what the contracts mean.
+#![tactic(auto)]
+
 mod complex;
 mod complex_sums;
 mod fault;

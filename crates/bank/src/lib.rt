@@ -1,6 +1,8 @@
 // A bank of sixteen places that hold complex numbers of one format. So far it loads numbers and shows them again.
 // Read store.rt beside specs/Calls.antt, which says what each call answers and what the places hold after it. rows.rt has the
 // worked examples of the definitions.
+#![tactic(auto)]
+
 mod fault;
 mod place;
 mod rows;

@@ -1,5 +1,7 @@
 // Plays example tapes and says of each whether it printed what it should: data/NAME.hex is a tape as hexadecimal text,
 // and data/NAME.out what it prints. Then tapes of the greatest length, line buffers of the least, and the sums of sums.rt.
+#![tactic(auto)]
+
 mod sums;
 
 use bank::Bank;

@@ -1,4 +1,6 @@
 // Plays the tape on standard input: prints one line for each record.
+#![tactic(auto)]
+
 use std::io;
 use std::io::{Read, Write};
 

@@ -1,5 +1,7 @@
 // The run over a tape: its states, the records that it takes, and the line that each record gives in a lent buffer.
 // Read states.rt and take.rt, beside specs/Lines.antt, which has the lines, and specs/States.antt, which says where each call leads.
+#![tactic(auto)]
+
 mod lines;
 mod refusal;
 mod reply;

@@ -23,8 +23,8 @@ pub returns-then-n-p : goal.returns-then-n-p
 returns-then-n-p g c =
     let t = c.args.t in
     let n = c.digits-n.result in
-    let s = c.first-exponent-e.result in
-    let q = exponent_is s t.exponent n t.low t.high c.first-exponent-e.ensures in
+    let s = c.first_exponent-e.result in
+    let q = exponent_is s t.exponent n t.low t.high c.first_exponent-e.ensures in
     at_few c.args.p.bits t.size n c.args.p.some c.args.p.few (some t.size c.if-t-eq0.false) c.digits-n.ensures.defined c.if-n-p.true g.T.TieBreak.upper t.negative t.exponent _
     (itself s t.exponent n t.low t.high c.digits-n.ensures.few q ∙ q)
 
@@ -37,8 +37,8 @@ pub returns : goal.returns
 returns g c =
     let t = c.args.t in
     let n = c.digits-n.result in
-    let s = c.first-exponent-e.result in
-    let q = exponent_is s t.exponent n t.low t.high c.first-exponent-e.ensures in
+    let s = c.first_exponent-e.result in
+    let q = exponent_is s t.exponent n t.low t.high c.first_exponent-e.ensures in
     let same = itself s t.exponent n t.low t.high c.digits-n.ensures.few q in
     at_many c.args.p.bits t.size n c.args.p.some c.args.p.few t.short c.digits-n.ensures.defined c.if-n-p.false g.T.TieBreak.upper c.cut.result (some t.size c.if-t-eq0.false) c.cut.ensures
     t.negative t.exponent s q _ _

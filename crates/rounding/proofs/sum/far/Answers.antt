@@ -8,6 +8,6 @@ lowered e lo hi = omega (arith, ints)
 
 pub returns : goal.returns
 returns c =
-    let h = far_is c.args.x.negative c.args.x.size c.args.y.negative c.args.y.size c.with-unit.result c.args.x.exponent c.args.y.exponent _
-    c.args.x.short c.requires.large c.args.y.short c.requires.small c.requires.places c.with-unit.ensures (lowered c.args.x.exponent c.args.x.low c.args.x.high) in
+    let h = far_is c.args.x.negative c.args.x.size c.args.y.negative c.args.y.size c.with_unit.result c.args.x.exponent c.args.y.exponent _
+    c.args.x.short c.requires.large c.args.y.short c.requires.small c.requires.places c.with_unit.ensures (lowered c.args.x.exponent c.args.x.low c.args.x.high) in
     record { forward = h; backward = other_order _ c.args.x c.args.y h }
