@@ -10,5 +10,5 @@ use Rattle.arith.proofs.steps.step.Goals as goal
 pub returns : goal.returns
 returns g c =
     let t = unrounded_value c.args.t in
-    let a = answers (format_of g.row.C) (sound g.row.C) g.R.Rule.rn g.met.R.Rule.rounds t t (same_alike 24 t t refl) (step_parts c.round-and-judge.result) c.round-and-judge.ensures in
+    let a = answers (format_of g.row.C) (sound g.row.C) g.R.Rule.rn g.met.R.Rule.rounds t t (same_alike 24 t t refl) (step_parts c.round_and_judge.result) c.round_and_judge.ensures in
     record { defined = a.defined; rightly_rounded = a.rightly_rounded }

@@ -15,5 +15,5 @@ pub returns : goal.returns
 returns g c =
     let x = c.args.x in
     let y = c.args.y in
-    let a = sum_answers (format_of g.row.C) (sound g.row.C) g.R.Rule.rn g.met.R.Rule.rounds (unrounded_value c.difference-of.result) (scaled_term x) (negated (scaled_term y)) (term_value x) (negated (term_value y)) (term_value_lem g.row.C x) (negated_like (scaled_term y) (term_value y) (term_value_lem g.row.C y)) c.difference-of.ensures (step_parts c.round-and-judge.result) c.round-and-judge.ensures in
+    let a = sum_answers (format_of g.row.C) (sound g.row.C) g.R.Rule.rn g.met.R.Rule.rounds (unrounded_value c.difference_of.result) (scaled_term x) (negated (scaled_term y)) (term_value x) (negated (term_value y)) (term_value_lem g.row.C x) (negated_like (scaled_term y) (term_value y) (term_value_lem g.row.C y)) c.difference_of.ensures (step_parts c.round_and_judge.result) c.round_and_judge.ensures in
     record { defined = a.defined; rightly_rounded = a.rightly_rounded; loss_has_precision = λ hx hy. a.loss_has_precision hx (negated_precise (format_of g.row.C).precision (term_value y) hy) }

@@ -11,5 +11,5 @@ pub returns : goal.returns
 returns g c =
     let x = c.args.x in
     let y = c.args.y in
-    let a = sum_answers (format_of g.row.C) (sound g.row.C) g.R.Rule.rn g.met.R.Rule.rounds (unrounded_value c.sum-of.result) (scaled_term x) (scaled_term y) (term_value x) (term_value y) (term_value_lem g.row.C x) (term_value_lem g.row.C y) c.sum-of.ensures (step_parts c.round-and-judge.result) c.round-and-judge.ensures in
+    let a = sum_answers (format_of g.row.C) (sound g.row.C) g.R.Rule.rn g.met.R.Rule.rounds (unrounded_value c.sum_of.result) (scaled_term x) (scaled_term y) (term_value x) (term_value y) (term_value_lem g.row.C x) (term_value_lem g.row.C y) c.sum_of.ensures (step_parts c.round_and_judge.result) c.round_and_judge.ensures in
     record { defined = a.defined; rightly_rounded = a.rightly_rounded; loss_has_precision = a.loss_has_precision }

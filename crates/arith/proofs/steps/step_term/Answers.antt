@@ -15,11 +15,11 @@ pub returns : goal.returns
 returns g c =
     let f = format_of g.row.C in
     let rn = g.R.Rule.rn in
-    let r = step_parts c.round-and-judge.result in
+    let r = step_parts c.round_and_judge.result in
     let x = c.args.x in
-    let t = unrounded_value c.value-of.result in
-    let h = same_alike 24 t (term_value x) (subst (λ (z : Exact). z ≈ term_value x) (sym c.value-of.ensures) (term_value_lem g.row.C x)) in
-    let a = answers f (sound g.row.C) rn g.met.R.Rule.rounds t (term_value x) h r c.round-and-judge.ensures in
+    let t = unrounded_value c.value_of.result in
+    let h = same_alike 24 t (term_value x) (subst (λ (z : Exact). z ≈ term_value x) (sym c.value_of.ensures) (term_value_lem g.row.C x)) in
+    let a = answers f (sound g.row.C) rn g.met.R.Rule.rounds t (term_value x) h r c.round_and_judge.ensures in
     record {
       defined = a.defined;
       rightly_rounded = a.rightly_rounded;

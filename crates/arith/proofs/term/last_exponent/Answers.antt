@@ -10,7 +10,7 @@ returns g c =
     let f = format_of g.row.C in
     let s = sound g.row.C in
     let x = c.args.x in
-    let v = ap (λ (k : Format). to_z w32 (of_z w32 (to_z w32 (of_z w32 (to_z w32 (of_z w32 x.exponent) +ℤ pos 1)) -ℤ to_z w32 k.precision))) c.of-code.ensures ∙ last_is x.exponent f.precision f.emax x.low x.high s.emax_small s.few_digits in
+    let v = ap (λ (k : Format). to_z w32 (of_z w32 (to_z w32 (of_z w32 (to_z w32 (of_z w32 x.exponent) +ℤ pos 1)) -ℤ to_z w32 k.precision))) c.of_code.ensures ∙ last_is x.exponent f.precision f.emax x.low x.high s.emax_small s.few_digits in
     record {
       value = v;
       low = subst (λ (z : ℤ). negsuc 149 ≤ℤ z) (sym v) (last_low x.exponent f.precision f.emax x.low x.high s.emax_small s.few_digits);

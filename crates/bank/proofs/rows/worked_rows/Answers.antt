@@ -8,6 +8,6 @@ use Rattle.bank.proofs.rows.worked_rows.Goals as goal
 pub returns : goal.returns
 unfolding canonical round_whole size span climb
 returns c = record {
-  counted = c.row-count.ensures;
+  counted = c.row_count.ensures;
   all-stand = (refl, (refl, (refl, (refl, (refl, (refl, (refl, (refl, (refl, (refl, (refl, (refl, (refl, (refl, (refl, (refl, (refl, (refl, (refl, (refl, (refl, (refl, tt))))))))))))))))))))));
 }

@@ -7,7 +7,7 @@ use Rattle.records.proofs.reader.read_opening.Goals as goal
 pub returns : goal.returns
 returns c =
     let first = c.args.first in
-    let e = c.opening-by-kind.ensures in
+    let e = c.opening_by_kind.ensures in
     record {
       defined = e;
       in-turn = ap result_err e ∙ opening_in_turn (frame first.kind first.payload.now);

@@ -8,7 +8,7 @@ use Rattle.records.proofs.reader.read_record.Goals as goal
 pub returns : goal.returns
 returns g c =
     let whole = c.args.whole in
-    let e = c.record-by-kind.ensures in
+    let e = c.record_by_kind.ensures in
     record {
       asks = e.asks;
       part-of-tape = e.part-of-tape;

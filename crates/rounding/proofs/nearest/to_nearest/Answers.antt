@@ -16,8 +16,8 @@ some n h = omega (arith, h)
 pub returns-then-t-eq0 : goal.returns-then-t-eq0
 returns-then-t-eq0 g c = at_zero g.T.TieBreak.upper c.args.p.bits c.args.t.negative c.args.t.size c.args.t.exponent c.args.p.some c.if-t-eq0.true c.args.t.plain
 
-pub overflow-cast-result-then-n-p : goal.overflow-cast-result-then-n-p
-overflow-cast-result-then-n-p g c = record { fits = few_fits c.args.p.bits c.args.t.size c.digits-n.result c.args.p.some c.args.p.few (some c.args.t.size c.if-t-eq0.false) c.digits-n.ensures.defined c.if-n-p.true }
+pub overflow_cast-result-then-n-p : goal.overflow_cast-result-then-n-p
+overflow_cast-result-then-n-p g c = record { fits = few_fits c.args.p.bits c.args.t.size c.digits-n.result c.args.p.some c.args.p.few (some c.args.t.size c.if-t-eq0.false) c.digits-n.ensures.defined c.if-n-p.true }
 
 pub returns-then-n-p : goal.returns-then-n-p
 returns-then-n-p g c =

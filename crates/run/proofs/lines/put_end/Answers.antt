@@ -3,4 +3,4 @@ use Rattle.run.proofs.lines.put_end.Goals as goal
 
 pub returns : goal.returns
 returns g c =
-    wrote_then (rw c.word.ensures at c.put-start-at.ensures.wrote) c.put-byte.ensures
+    wrote_then (rw c.word.ensures at c.put_start-at.ensures.wrote) c.put_byte.ensures

@@ -3,4 +3,4 @@ use Rattle.run.proofs.Writes.{wrote_then}
 use Rattle.run.proofs.lines.put_number.Goals as goal
 
 pub returns : goal.returns
-returns c = record { wrote = wrote_then c.put-byte-at.ensures c.put-decimal.ensures.wrote; bound = search rules }
+returns c = record { wrote = wrote_then c.put_byte-at.ensures c.put_decimal.ensures.wrote; bound = search rules }

@@ -6,8 +6,8 @@ use Rattle.run.proofs.lines.put_pattern.Goals as goal
 
 pub returns : goal.returns
 returns g c =
-    let digits : c.of-code.result.width / 4 ≡ pattern_digits (format_of g.row.C) = ap pattern_digits c.of-code.ensures in
+    let digits : c.of_code.result.width / 4 ≡ pattern_digits (format_of g.row.C) = ap pattern_digits c.of_code.ensures in
     record {
-      wrote = rw digits at (wrote_then c.put-byte-at.ensures c.put-hexadecimal.ensures.wrote);
+      wrote = rw digits at (wrote_then c.put_byte-at.ensures c.put_hexadecimal.ensures.wrote);
       bound = search rules;
     }

@@ -4,6 +4,6 @@ use Rattle.run.proofs.lines.put_start.Goals as goal
 
 pub returns : goal.returns
 returns c = record {
-  wrote = wrote_then c.put-decimal-at.ensures.wrote (wrote_then c.put-byte-at.ensures c.put-bytes.ensures);
+  wrote = wrote_then c.put_decimal-at.ensures.wrote (wrote_then c.put_byte-at.ensures c.put_bytes.ensures);
   bound = search rules;
 }

@@ -10,6 +10,6 @@ pub returns : goal.returns
 returns t c = record {
   wrote =
       rw (hexadecimal_step c.args.width c.args.n (omega arith))
-      (rw (sym c.hex-digit.ensures) (wrote_then c.put-hexadecimal-last.ensures.wrote c.put-byte.ensures));
-  end = omega (arith, c.put-byte.ensures.end, c.put-hexadecimal-last.ensures.end);
+      (rw (sym c.hex_digit.ensures) (wrote_then c.put_hexadecimal-last.ensures.wrote c.put_byte.ensures));
+  end = omega (arith, c.put_byte.ensures.end, c.put_hexadecimal-last.ensures.end);
 }

@@ -6,4 +6,4 @@ pub returns : goal.returns
 returns c =
     let n = length c.args.bytes.now in
     let k : c.args.at + (c.args.at + n - c.args.at) ≡ c.args.at + n = omega arith in
-    record { end = refl; room = c.requires; bytes = simp (drop-drop, c.copy-from-slice.ensures.after, k) }
+    record { end = refl; room = c.requires; bytes = simp (drop-drop, c.copy_from_slice.ensures.after, k) }

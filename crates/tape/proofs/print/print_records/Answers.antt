@@ -12,9 +12,9 @@ loop-next-preserved g c =
     let run = c.loop-next.run in
     let ps = holds c.loop-next.bank in
     let (midway, grown, inside) = c.loop-next.invariant in
-    let (goes_on, one) = rw c.in-Some.is at c.in-ok-next.ensures.prints in
-    let room = c.print-record.ensures.capacity in (
-      one_more midway _ _ (vec_items c.print-record.new.out) (run_more f run ps inside c.in-Some.next goes_on (holds c.print-record.new.bank) one.places) one.text,
+    let (goes_on, one) = rw c.in-Some.is at c.in_ok-next.ensures.prints in
+    let room = c.print_record.ensures.capacity in (
+      one_more midway _ _ (vec_items c.print_record.new.out) (run_more f run ps inside c.in-Some.next goes_on (holds c.print_record.new.bank) one.places) one.text,
       omega (arith, grown, room),
       stays_inside f run ps inside c.in-Some.next goes_on,
     )
@@ -22,14 +22,14 @@ loop-next-preserved g c =
 pub returns : goal.returns
 returns g c =
     let (midway, grown, inside) = c.loop-next.invariant in
-    let (ends, one) = rw c.in-default.is at c.in-ok-next.ensures.prints in
+    let (ends, one) = rw c.in_default.is at c.in_ok-next.ensures.prints in
     record {
-      adds = finished midway (vec_items c.print-record.new.out) (one.text ∙ ap (λ l. vec_items c.loop-next.out ++ l) (sym (run_last (format_of g.row.C) c.loop-next.run (holds c.loop-next.bank) inside ends)));
-      capacity = omega (arith, grown, c.print-record.ensures.capacity);
+      adds = finished midway (vec_items c.print_record.new.out) (one.text ∙ ap (λ l. vec_items c.loop-next.out ++ l) (sym (run_last (format_of g.row.C) c.loop-next.run (holds c.loop-next.bank) inside ends)));
+      capacity = omega (arith, grown, c.print_record.ensures.capacity);
     }
 
-pub returns-in-err-next : goal.returns-in-err-next
-returns-in-err-next g c =
+pub returns-in_err-next : goal.returns-in_err-next
+returns-in_err-next g c =
     let f = format_of g.row.C in
     let run = c.loop-next.run in
     let ps = holds c.loop-next.bank in
@@ -37,6 +37,6 @@ returns-in-err-next g c =
     let p = err_from_is_err_and c.from-residual.result c.from-residual.ensures.1 in
     record {
       adds =
-          rw p.1 (no_memory midway (vec_capacity c.args.out.now) (vec_capacity c.loop-next.out) _ (others f run ps inside) (vec_items c.print-record.new.out) grown (run_line f run ps inside) c.in-err-next.ensures.prints);
-      capacity = omega (arith, grown, c.print-record.ensures.capacity);
+          rw p.1 (no_memory midway (vec_capacity c.args.out.now) (vec_capacity c.loop-next.out) _ (others f run ps inside) (vec_items c.print_record.new.out) grown (run_line f run ps inside) c.in_err-next.ensures.prints);
+      capacity = omega (arith, grown, c.print_record.ensures.capacity);
     }

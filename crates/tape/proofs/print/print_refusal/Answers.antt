@@ -6,8 +6,8 @@ use Rattle.tape.proofs.print.print_refusal.Goals as goal
 pub returns : goal.returns
 returns c =
     let out = c.args.out.now in
-    let after = vec_items c.add-line.new.out in
+    let after = vec_items c.add_line.new.out in
     record {
-      adds = subst (λ (text : List ℕ). Adds (vec_capacity out) (vec_items out) after text c.add-line.result) (wrote_taken c.in-Ok.ensures.1) c.add-line.ensures.adds;
-      capacity = c.add-line.ensures.capacity;
+      adds = subst (λ (text : List ℕ). Adds (vec_capacity out) (vec_items out) after text c.add_line.result) (wrote_taken c.in-Ok.ensures.1) c.add_line.ensures.adds;
+      capacity = c.add_line.ensures.capacity;
     }

@@ -20,14 +20,14 @@ pub returns : goal.returns
 returns c =
     let t = c.args.tape.now in
     let out = c.args.out.now in
-    let given = c.print-all.ensures.adds in
-    let law : (P : List ℕ → Type 0) → P (printed t) → IfOk c.print-all.result (λ _. P (added (vec_items out) (vec_items c.print-all.new.out)))
-    = λ P. of_added P (vec_capacity out) (vec_items out) (vec_items c.print-all.new.out) (printed t) c.print-all.result given in
+    let given = c.print_all.ensures.adds in
+    let law : (P : List ℕ → Type 0) → P (printed t) → IfOk c.print_all.result (λ _. P (added (vec_items out) (vec_items c.print_all.new.out)))
+    = λ P. of_added P (vec_capacity out) (vec_items out) (vec_items c.print_all.new.out) (printed t) c.print_all.result given in
     record {
       defined = given;
       one_line_each = law (OneLineEach t) (one_line_each t);
       read_out = read_out t (first t) refl;
       nothing_behind = law (NothingBehind t) (nothing_behind t);
       shows_last_load = law (ShowsLastLoad t) (shows_last_load t);
-      capacity = c.print-all.ensures.capacity;
+      capacity = c.print_all.ensures.capacity;
     }

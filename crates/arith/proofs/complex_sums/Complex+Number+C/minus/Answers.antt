@@ -11,6 +11,6 @@ returns g c =
     let x = c.args.self in
     let y = c.args.other in
     record {
-      defined = c.difference-in-steps.ensures;
-      rightly_rounded = both_rightly (format_of g.row.C) (sound g.row.C) g.R.Rule.rn g.met.R.Rule.rounds (value_of x.re ⊟ value_of y.re) (value_of x.im ⊟ value_of y.im) (complex_by c.difference-in-steps.result) c.difference-in-steps.ensures;
+      defined = c.difference_in_steps.ensures;
+      rightly_rounded = both_rightly (format_of g.row.C) (sound g.row.C) g.R.Rule.rn g.met.R.Rule.rounds (value_of x.re ⊟ value_of y.re) (value_of x.im ⊟ value_of y.im) (complex_by c.difference_in_steps.result) c.difference_in_steps.ensures;
     }

@@ -24,7 +24,7 @@ returns g c =
     let e = c.decode.ensures in
     record {
       defined = e;
-      ieee_value_lem = answered g.row.C n c.decode.result _ e (λ x. ieee_value_lem f n x (sound g.row.C).some_digit);
+      ieee_value = answered g.row.C n c.decode.result _ e (λ x. ieee_value_lem f n x (sound g.row.C).some_digit);
       shown_again = answered g.row.C n c.decode.result _ e (shown f (sound g.row.C) n);
       told_apart = answered g.row.C n c.decode.result _ e (told_apart f (sound g.row.C) n);
     }

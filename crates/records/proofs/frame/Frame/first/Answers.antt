@@ -3,6 +3,6 @@ use Rattle.records.proofs.frame.Frame.first.Goals as goal
 
 pub returns : goal.returns
 returns c =
-    let heads = c.in-ok-header.ensures in
+    let heads = c.in_ok-header.ensures in
     let (fits, cut) = c.in-Some.ensures in
     record { front = front_is heads fits cut; within = within heads fits cut; part-of-tape = payload_part heads fits cut }

@@ -5,7 +5,7 @@ use Rattle.run.proofs.states.OpenedRun.take_record.Goals as goal
 
 pub returns : goal.returns
 returns g c =
-    let next = c.next-record in
+    let next = c.next_record in
     record {
       leads = next.ensures;
       refused_changes_nothing =
