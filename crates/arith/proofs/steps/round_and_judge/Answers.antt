@@ -9,4 +9,4 @@ invariant_of-in_range g c =
     let t = c.args.t in
     let m = c.round-significand.result in
     let f = formed (format_of g.row.C).precision c.precision.result.bits g.R.Rule.rn g.met.R.Rule.rounds (unrounded_value t) (parts t.negative m.0 m.1) c.precision.result.some c.precision.ensures c.round-significand.ensures in
-    (f.short, (f.full, (f.plain, tt)))
+    record { short = f.short; full = f.full; plain = f.plain }

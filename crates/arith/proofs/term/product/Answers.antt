@@ -13,13 +13,13 @@ invariant_of-result g c =
     let b = c.last_exponent-2.result in
     let i = c.last_exponent.ensures in
     let j = c.last_exponent-2.ensures in
-    let e = sum_is a b i.low i.high j.low j.high in (
-      product_short (format_of g.row.C).precision x.significand y.significand (sound g.row.C).few_digits x.short y.short,
-      (
-        c.product_sign.ensures.plain,
-        (subst (λ (z : ℤ). negsuc 299 ≤ℤ z) (sym e) (sum_low a b i.low i.high j.low j.high), (subst (λ (z : ℤ). z ≤ℤ pos 300) (sym e) (sum_high a b i.low i.high j.low j.high), tt)),
-      ),
-    )
+    let e = sum_is a b i.low i.high j.low j.high in
+    record {
+      short = product_short (format_of g.row.C).precision x.significand y.significand (sound g.row.C).few_digits x.short y.short;
+      plain = c.product_sign.ensures.plain;
+      low = subst (λ (z : ℤ). negsuc 299 ≤ℤ z) (sym e) (sum_low a b i.low i.high j.low j.high);
+      high = subst (λ (z : ℤ). z ≤ℤ pos 300) (sym e) (sum_high a b i.low i.high j.low j.high);
+    }
 
 pub returns : goal.returns
 returns g c =
