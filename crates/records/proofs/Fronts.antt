@@ -41,5 +41,5 @@ module _ {bytes behind payload : Bor (List ℕ)} {size kind : ℕ} (heads : Head
   payload_part = record {
     bytes = payload_is ∙ ap (λ s. take s (drop 4 bytes.now)) (sym payload_long);
     block = cut.block ∙ heads.rest.block;
-    offset = cut.offset ∙ add-zero behind.ptr.1 ∙ heads.rest.offset;
+    offset = cut.offset ∙ add-zero behind.ref_ptr.1 ∙ heads.rest.offset;
   }

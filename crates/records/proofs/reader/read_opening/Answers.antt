@@ -10,5 +10,5 @@ returns c =
     let e = c.opening_by_kind.ensures in
     record {
       defined = e;
-      in-turn = ap result_err e ∙ opening_in_turn (frame first.kind first.payload.now);
+      in_turn = ap result_err e ∙ opening_in_turn (frame first.kind first.payload.now);
     }

@@ -11,7 +11,7 @@ returns g c =
     let e = c.record_by_kind.ensures in
     record {
       asks = e.asks;
-      part-of-tape = e.part-of-tape;
+      part_of_tape = e.part_of_tape;
       fits = e.fits;
-      in-turn = ap result_err e.asks ∙ later_in_turn (format_of g.row.C) (frame whole.kind whole.payload.now);
+      in_turn = ap result_err e.asks ∙ later_in_turn (format_of g.row.C) (frame whole.kind whole.payload.now);
     }

@@ -5,4 +5,4 @@ pub returns : goal.returns
 returns c =
     let heads = c.in_ok-header.ensures in
     let (fits, cut) = c.in-Some.ensures in
-    record { front = front_is heads fits cut; within = within heads fits cut; part-of-tape = payload_part heads fits cut }
+    record { front = front_is heads fits cut; within = within heads fits cut; part_of_tape = payload_part heads fits cut }
