@@ -3,5 +3,5 @@ use lib.Ieee.{binary32}
 use Rattle.std.proofs.num.Patterns.{below_the_nans}
 use Rattle.checks.proofs.sums.float.Goals as goal
 
-pub float-from_bits-result : goal.float-from_bits-result
-float-from_bits-result c = below_the_nans binary32 c.args.pattern (omega arith)
+pub float_from_bits-result : goal.float_from_bits-result
+float_from_bits-result c = below_the_nans binary32 c.args.pattern (omega arith)

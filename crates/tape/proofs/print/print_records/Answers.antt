@@ -34,7 +34,7 @@ returns-in_err-next g c =
     let run = c.loop-next.run in
     let ps = holds c.loop-next.bank in
     let (midway, grown, inside) = c.loop-next.invariant in
-    let p = err_from_is_err_and c.from-residual.result c.from-residual.ensures.1 in
+    let p = err_from_is_err_and c.from_residual.result c.from_residual.ensures.1 in
     record {
       adds =
           rw p.1 (no_memory midway (vec_capacity c.args.out.now) (vec_capacity c.loop-next.out) _ (others f run ps inside) (vec_items c.print_record.new.out) grown (run_line f run ps inside) c.in_err-next.ensures.prints);
