@@ -1,8 +1,6 @@
 // Plays example tapes and says of each whether it printed what it should: data/NAME.hex is a tape as hexadecimal text,
-// and data/NAME.out what it prints. Then tapes of the greatest length, line buffers of the least, and the sums of sums.rt.
+// and data/NAME.out what it prints. Then tapes of the greatest length, and line buffers of the least.
 #![tactic(auto)]
-
-mod sums;
 
 use bank::Bank;
 use run::{FreshRun, OpenedRun, Opening, Taking};
@@ -227,10 +225,7 @@ fn main(rt: HostRuntime) -> io::Result<()> {
     check_too_wide(&rt, 0x1_0000)?;
     check_too_wide(&rt, 0xFFFF_FFFF)?;
     match check_opening(&rt, &[2, 0, 1, 0, 1, 1, 0, 0, 8, 0])? {
-        Some(opened) => check_taking(&rt, opened)?,
-        None => println!(rt; "not opened")?,
+        Some(opened) => check_taking(&rt, opened),
+        None => println!(rt; "not opened"),
     }
-    let rows = bank::worked_rows();
-    println!(rt; "{rows} worked rows are proved of the definitions")?;
-    sums::check_sums(&rt)
 }

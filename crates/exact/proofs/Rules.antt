@@ -8,7 +8,7 @@ use Rattle.exact.proofs.Chosen.{NaturalPrecision, chosen_near, chosen_prec}
 use Rattle.exact.proofs.OneChoice.{round_chosen, round_finer}
 use Rattle.exact.proofs.OneForm.{one_form, has_form}
 use Rattle.exact.specs.Exact.{Exact, HasPrecision, two^, ◌≈◌, ◌⊑◌, ◌⊟◌, size, scaled, signed_by, is_negative}
-use Rattle.exact.specs.Parts.{value, canonical}
+use Rattle.exact.specs.Parts.{value}
 use Rattle.exact.specs.Rounding.{Rounding}
 use Rattle.exact.specs.Ties.{Tie, round_whole, round_exact, nearest_by}
 

@@ -43,7 +43,7 @@ whole n = record { num = n; low = 0 }
 
 -- m · 2 ^ e, for a whole e of any sign
 abbrev pub scaled : ℤ → ℤ → Exact
-scaled m (pos e) = whole (m *ℤ two^ e)
+scaled m (pos e) = record { num = m *ℤ two^ e; low = 0 }
 scaled m (negsuc e) = record { num = m; low = suc e }
 
 -- n with a sign: true is minus

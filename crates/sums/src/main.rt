@@ -1,5 +1,7 @@
 // Sums and differences in steps, tried on patterns: the worked ones by every rule, many by every rule and format with a checksum
 // of the answers, and many of binary32 against the machine's own floats.
+#![tactic(auto)]
+
 use arith::{Complex, Number, StepFault, Term};
 use buyer::{TiesUpward, ToOdd};
 use rounding::{AwayFromZero, Nearest, Rule, ToEven, TowardZero};
@@ -172,7 +174,9 @@ fn check_machine(rt: &HostRuntime) -> io::Result<()> {
     )
 }
 
-pub fn check_sums(rt: &HostRuntime) -> io::Result<()> {
+fn main(rt: HostRuntime) -> io::Result<()> {
+    let rows = bank::worked_rows();
+    println!(rt; "{rows} worked rows are proved of the definitions")?;
     for (a, b) in [
         (0x3C00u32, 0x1000u32),
         (0x3C01, 0x1000),
@@ -180,10 +184,10 @@ pub fn check_sums(rt: &HostRuntime) -> io::Result<()> {
         (0x0401, 0x0400),
         (0x0800, 0x0400),
     ] {
-        check_worked(rt, a, b)?;
+        check_worked(&rt, a, b)?;
     }
-    check_rules::<1>(rt, 16)?;
-    check_rules::<2>(rt, 16)?;
-    check_rules::<3>(rt, 0)?;
-    check_machine(rt)
+    check_rules::<1>(&rt, 16)?;
+    check_rules::<2>(&rt, 16)?;
+    check_rules::<3>(&rt, 0)?;
+    check_machine(&rt)
 }

@@ -1,7 +1,7 @@
 use Rattle.std.proofs.Common.{arith}
 use lib.Ieee.{binary32}
 use Rattle.std.proofs.num.Patterns.{below_the_nans}
-use Rattle.checks.proofs.sums.float.Goals as goal
+use Rattle.sums.proofs.float.Goals as goal
 
 pub float_from_bits-result : goal.float_from_bits-result
 float_from_bits-result c = below_the_nans binary32 c.args.pattern (omega arith)
