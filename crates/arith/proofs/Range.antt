@@ -18,7 +18,7 @@ use Rattle.arith.specs.declared.fault.RangeFault.TheVariants.{Above, Below}
 use Rattle.arith.specs.Step.{in_range, stepped, largest, smallest, RightlyRounded, LossHasPrecision}
 use Rattle.arith.proofs.Formats.{Sound}
 
--- ---- what an answer of `inRange` says
+-- ---- what an answer of `in_range` says
 accepted : (f : Format) (x y : Parts) → (x.significand ≡ 0 → x ≡ zero_parts) → in_range f x ≡ Ok y → x ≡ y
 accepted f x y z e = grind (arith, nat_tests)
 
