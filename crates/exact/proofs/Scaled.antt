@@ -1,11 +1,11 @@
 -- Values m · 2 ^ e: on a scale, with another exponent, and their products and sums.
-use Rattle.std.proofs.Common.{◌≡◌, ℕ, suc, ◌+◌, ◌-◌, ◌*◌, ◌^◌, ◌<◌, ◌≤◌, Bool, ◌⊎◌, [], ◌∷◌, ℤ, pos, negsuc, ◌+ℤ◌, ◌-ℤ◌, ◌*ℤ◌, sym, refl, ap, ◌∙◌, ap₂, inl, inr, mul-le-mul_right, mul-le-mul_left, mul-lt-mul_of_pos_right, one-mul, pow-suc, arith, pow_pos, pow_mono}
+use Rattle.std.proofs.Common.{◌≡◌, ℕ, suc, ◌+◌, ◌-◌, ◌*◌, ◌^◌, ◌<◌, ◌≤◌, Bool, ◌⊎◌, [], ◌∷◌, ℤ, pos, negsuc, ◌+ℤ◌, ◌-ℤ◌, ◌*ℤ◌, nat_abs, sym, refl, ap, ◌∙◌, ap₂, inl, inr, mul-le-mul_right, mul-le-mul_left, mul-lt-mul_of_pos_right, one-mul, pow-suc, arith, pow_pos, pow-add, pow_mono}
 use borrow.Author.Differences.{ints, up, down}
 use Rattle.exact.proofs.Ring.{ring, v, ◌⊕◌, ◌⊗◌, mul_assoc}
 use Rattle.exact.proofs.Order.{◌≼◌, ◌≺◌, le_or_lt}
-use Rattle.exact.proofs.Signs.{abs_mul, abs_signed, signed_mul}
+use Rattle.exact.proofs.Signs.{abs_mul, abs_signed, negative_signed, negative_mul, signed_mul}
 use Rattle.exact.proofs.Scale.{at, le_at, same_at, at_same, at_plus, at_times, at_more, at_on, on, two_add}
-use Rattle.exact.specs.Exact.{Exact, two^, ◌≈◌, ◌⊑◌, ◌⊞◌, ◌⊠◌, size, scaled, signed_by}
+use Rattle.exact.specs.Exact.{Exact, two^, ◌≈◌, ◌⊑◌, ◌⊞◌, ◌⊠◌, size, scaled, signed_by, is_negative}
 
 -- ---- on a scale
 pub low_is : (n e : ℤ) → (scaled n e).low ≡ down e
@@ -47,6 +47,27 @@ scaled_cross m e x h =
     let S = x.low + down e in
     sym (at_scaled S m e (up e + x.low) (other_place e x.low)) ∙ same_at S (scaled m e) x (rw (low_is m e) (omega arith)) (omega arith) h
     ∙ at_more x.low (down e) x (omega arith) ∙ ap (λ z. z *ℤ two^ (down e)) (at_on x.low x.num)
+
+-- ---- m · 2 ^ e as a fraction: the common denominator of two such values, and sizes and signs there
+scaled_num : (m e : ℤ) → (scaled m e).num ≡ m *ℤ two^ (up e)
+scaled_num m (pos e) = refl
+scaled_num m (negsuc e) = omega (arith, ints)
+
+pub cross : (m n e f : ℤ) → scaled m e ≈ scaled n f → m *ℤ two^ (up e) *ℤ two^ (down f) ≡ n *ℤ two^ (up f) *ℤ two^ (down e)
+cross m n e f h =
+    ap₂ (λ a b. a *ℤ two^ b) (sym (scaled_num m e)) (sym (low_is n f)) ∙ h ∙ ap₂ (λ a b. a *ℤ two^ b) (scaled_num n f) (low_is m e)
+
+pub abs_cross : (b : Bool) (m i j : ℕ) → nat_abs (signed_by b m *ℤ two^ i *ℤ two^ j) ≡ m * 2 ^ (i + j)
+abs_cross b m i j =
+    abs_mul (signed_by b m *ℤ two^ i) (two^ j) ∙ ap (λ k. k * 2 ^ j) (abs_mul (signed_by b m) (two^ i) ∙ ap (λ k. k * 2 ^ i) (abs_signed b m))
+    ∙ group m (2 ^ i) (2 ^ j) ∙ ap (λ k. m * k) (sym (pow-add 2 i j))
+  where
+    group : (a b c : ℕ) → a * b * c ≡ a * (b * c)
+    group a b c = omega arith
+
+pub negative_cross : (b : Bool) (m i j : ℕ) → 0 < m → is_negative (signed_by b m *ℤ two^ i *ℤ two^ j) ≡ b
+negative_cross b m i j h =
+    negative_mul (signed_by b m *ℤ two^ i) (2 ^ j) (pow_pos j) ∙ negative_mul (signed_by b m) (2 ^ i) (pow_pos i) ∙ negative_signed b m h
 
 -- ---- m 2 ^ k · 2 ^ e is m · 2 ^ (e + k)
 pub shift : (m e : ℤ) (k : ℕ) → scaled (m *ℤ two^ k) e ≈ scaled m (e +ℤ pos k)
@@ -104,7 +125,7 @@ product_scaled m n a b =
     less a b (inr h) = omega arith
 
 -- M / 2 ^ k, made 2 ^ e times as large and given a sign
-pub signed_fraction : (b : Bool) (M k : ℕ) (e : ℤ) → scaled (signed_by b M) (e -ℤ pos k) ≈ scaled (signed_by b 1) e ⊠ on k (pos M)
+pub signed_fraction : (b : Bool) (M k : ℕ) (e : ℤ) → scaled (signed_by b M) (e -ℤ pos k) ≈ scaled (signed_by b 1) e ⊠ record { num = pos M; low = k }
 signed_fraction b M k e =
     let f = e -ℤ pos k in
     let S = down e + k in

@@ -1,7 +1,7 @@
 // To the nearest number of a precision: one text, whatever is taken midway.
 ghost use Rattle.std.specs.Prelude.{◌≡◌, suc, ◌+◌, ◌*◌, ◌/◌, ◌%◌, ◌^◌, ◌<◌, ◌≤◌, pos, negsuc, ◌+ℤ◌, ◌-ℤ◌, ◌≤ℤ◌, if◌then◌else◌};
 ghost use Prim.Native.Nat.{compare};
-ghost use Rattle.std.specs.Float.Ieee.{size as digitsOf};
+ghost use Rattle.std.specs.Float.Ieee.{size as digits_of};
 ghost use Rattle.exact.specs.Parts.{parts};
 ghost use Rattle.exact.specs.Ties.{pick, nearest_by};
 ghost use Rattle.rounding.specs.Values.{unrounded_value};
@@ -12,7 +12,7 @@ use crate::unrounded::Unrounded;
 
 // How many binary digits n has.
 fn digits(n: u128) -> u32
-    ensures defined { result ≡ digitsOf n }
+    ensures defined { result ≡ digits_of n }
     ensures few { result ≤ 128 }
 {
     128 - n.leading_zeros()
