@@ -9,17 +9,18 @@ use Rattle.arith.specs.declared.complex.Complex.{Complex}
 use Rattle.arith.specs.declared.fault.RangeFault.{RangeFault}
 use Rattle.arith.specs.declared.fault.StepFault.{StepFault}
 use Rattle.arith.specs.declared.format.Format.{Format}
+use Rattle.arith.specs.declared.format.NamedFormat.{Ghosts}
 use Rattle.arith.specs.declared.number.Number.{Number}
 
 abbrev pub complex : {X : Type 0} → X → X → Complex X
 complex a b = record { re = a; im = b }
 
 -- both numbers by their parts
-abbrev pub complex_parts : {C : ℕ} → Complex (Number C) → Complex Parts
+abbrev pub complex_parts : {F : Type 0} {g : Ghosts F} → Complex (Number F g) → Complex Parts
 complex_parts z = complex (parts_of z.re) (parts_of z.im)
 
 -- the parts of an answer, or the refusal
-abbrev pub complex_by : {C : ℕ} → Result (Complex (Number C)) StepFault → Result (Complex Parts) StepFault
+abbrev pub complex_by : {F : Type 0} {g : Ghosts F} → Result (Complex (Number F g)) StepFault → Result (Complex Parts) StepFault
 complex_by (Ok z) = Ok (complex_parts z)
 complex_by (Err e) = Err e
 

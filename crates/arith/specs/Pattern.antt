@@ -6,6 +6,11 @@ use Rattle.arith.specs.declared.format.Format.{Format}
 use Rattle.arith.specs.declared.pattern.PatternFault.{PatternFault}
 use Rattle.arith.specs.declared.pattern.PatternFault.TheVariants.{Invalid, Subnormal}
 
+-- the number that each refusal is known by
+abbrev pub number_of_pattern : PatternFault → ℕ
+number_of_pattern Invalid = 3
+number_of_pattern Subnormal = 4
+
 -- The fields of a pattern, from its highest bit down: the sign bit; the exponent field, which is the exponent plus emax;
 -- and the fraction, the digits of the significand behind its leading 1.
 abbrev pub sign_bit : Format → ℕ → Bool

@@ -3,11 +3,9 @@ use Rattle.std.specs.Prelude.{◌≡◌, ℕ, ◌-◌, ◌^◌, false, cond, ◌
 use Rattle.exact.specs.Exact.{Exact, HasPrecision, size, whole, ◌≈◌, ◌⊑◌, ◌⊟◌}
 use Rattle.exact.specs.Parts.{Parts, parts, zero_parts, value}
 use Rattle.exact.specs.Rounding.{NoneNearer, Rounding, Midway, OneOfTwo, WithinRoundoff}
-use Rattle.arith.specs.Number.{parts_of}
 use Rattle.arith.specs.declared.format.Format.{Format}
 use Rattle.arith.specs.declared.fault.RangeFault.{RangeFault}
 use Rattle.arith.specs.declared.fault.RangeFault.TheVariants.{Above, Below}
-use Rattle.arith.specs.declared.stepped.Stepped.{Stepped}
 
 -- the number that each refusal is known by
 abbrev pub number_of_range : RangeFault → ℕ
@@ -24,11 +22,6 @@ in_range f x =
 -- one step on the exact value t, by the rounding rn
 abbrev pub stepped : Format → (ℕ → Exact → Parts) → Exact → Result Parts RangeFault
 stepped f rn t = in_range f (rn f.precision t)
-
--- the parts of the number that a step answers, or the refusal
-abbrev pub step_parts : {C : ℕ} {E : Type 0} → Result (Stepped C) E → Result Parts E
-step_parts (Ok s) = Ok (parts_of s.number)
-step_parts (Err e) = Err e
 
 -- the largest number of a format, and the smallest one above zero
 abbrev pub largest : Format → Exact

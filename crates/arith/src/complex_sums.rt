@@ -2,75 +2,51 @@
 ghost use Rattle.std.specs.Prelude.{◌≡◌};
 ghost use Rattle.exact.specs.Exact.{◌⊞◌, ◌⊟◌};
 ghost use Rattle.arith.specs.Complex.{complex_parts, complex_by, complex_sum, complex_difference, at_step, BothRightlyRounded};
-ghost use Rattle.arith.specs.Format.{format_of};
 ghost use Rattle.arith.specs.Number.{parts_by, value_of};
-ghost use Rattle.arith.specs.Step.{step_parts};
 
 use crate::complex::Complex;
 use crate::fault::{RangeFault, StepFault};
+use crate::format::NamedFormat;
 use crate::number::Number;
-use crate::stepped::Stepped;
-use crate::steps::{step_difference, step_sum};
-use crate::term::Term;
+use crate::steps::step_sum;
 use rounding::Rule;
 
 // The number that a step answers, or its refusal with the step's number.
-fn numbered<const C: u8>(
-    answer: Result<Stepped<C>, RangeFault>,
+fn at_step<F: NamedFormat>(
+    answer: Result<Number<F>, RangeFault>,
     step: u32,
-) -> Result<Number<C>, StepFault>
-    ensures { parts_by result ≡ at_step step (step_parts answer.entry) }
+) -> Result<Number<F>, StepFault>
+    ensures { parts_by result ≡ at_step step (parts_by answer) }
 {
-    match answer {
-        Ok(stepped) => Ok(stepped.number),
-        Err(fault) => Err(StepFault { fault, step }),
-    }
+    answer.map_err(|fault| StepFault { fault, step })
 }
 
 // The sum, by its definition.
-fn sum_in_steps<const C: u8, R: Rule>(
-    x: Complex<Number<C>>,
-    y: Complex<Number<C>>,
-) -> Result<Complex<Number<C>>, StepFault>
-    ensures { complex_by result ≡ complex_sum (format_of C) R.Rule.rn (complex_parts x.entry) (complex_parts y.entry) }
+fn sum_in_steps<F: NamedFormat, R: Rule>(
+    x: Complex<Number<F>>,
+    y: Complex<Number<F>>,
+) -> Result<Complex<Number<F>>, StepFault>
+    ensures { complex_by result ≡ complex_sum F.format R.Rule.rn (complex_parts x) (complex_parts y) }
 {
-    let re = numbered(step_sum::<C, R>(Term::Number(x.re), Term::Number(y.re)), 1)?;
-    let im = numbered(step_sum::<C, R>(Term::Number(x.im), Term::Number(y.im)), 2)?;
+    let re = at_step(step_sum::<F, R>(x.re.into(), y.re.into()), 1)?;
+    let im = at_step(step_sum::<F, R>(x.im.into(), y.im.into()), 2)?;
     Ok(Complex { re, im })
 }
 
-// The difference, by its definition.
-fn difference_in_steps<const C: u8, R: Rule>(
-    x: Complex<Number<C>>,
-    y: Complex<Number<C>>,
-) -> Result<Complex<Number<C>>, StepFault>
-    ensures { complex_by result ≡ complex_difference (format_of C) R.Rule.rn (complex_parts x.entry) (complex_parts y.entry) }
-{
-    let re = numbered(
-        step_difference::<C, R>(Term::Number(x.re), Term::Number(y.re)),
-        1,
-    )?;
-    let im = numbered(
-        step_difference::<C, R>(Term::Number(x.im), Term::Number(y.im)),
-        2,
-    )?;
-    Ok(Complex { re, im })
-}
-
-impl<const C: u8> Complex<Number<C>> {
+impl<F: NamedFormat> Complex<Number<F>> {
     // The sum by the rule R.
-    pub fn plus<R: Rule>(self, other: Complex<Number<C>>) -> Result<Complex<Number<C>>, StepFault>
-        ensures defined { complex_by result ≡ complex_sum (format_of C) R.Rule.rn (complex_parts self.entry) (complex_parts other.entry) }
-        ensures rightly_rounded { BothRightlyRounded (format_of C) (value_of self.entry.re ⊞ value_of other.entry.re) (value_of self.entry.im ⊞ value_of other.entry.im) (complex_by result) }
+    pub fn plus<R: Rule>(self, other: Complex<Number<F>>) -> Result<Complex<Number<F>>, StepFault>
+        ensures defined { complex_by result ≡ complex_sum F.format R.Rule.rn (complex_parts self) (complex_parts other) }
+        ensures rightly_rounded { BothRightlyRounded F.format (value_of self.re ⊞ value_of other.re) (value_of self.im ⊞ value_of other.im) (complex_by result) }
     {
-        sum_in_steps::<C, R>(self, other)
+        sum_in_steps::<F, R>(self, other)
     }
 
     // The difference by the rule R.
-    pub fn minus<R: Rule>(self, other: Complex<Number<C>>) -> Result<Complex<Number<C>>, StepFault>
-        ensures defined { complex_by result ≡ complex_difference (format_of C) R.Rule.rn (complex_parts self.entry) (complex_parts other.entry) }
-        ensures rightly_rounded { BothRightlyRounded (format_of C) (value_of self.entry.re ⊟ value_of other.entry.re) (value_of self.entry.im ⊟ value_of other.entry.im) (complex_by result) }
+    pub fn minus<R: Rule>(self, other: Complex<Number<F>>) -> Result<Complex<Number<F>>, StepFault>
+        ensures defined { complex_by result ≡ complex_difference F.format R.Rule.rn (complex_parts self) (complex_parts other) }
+        ensures rightly_rounded { BothRightlyRounded F.format (value_of self.re ⊟ value_of other.re) (value_of self.im ⊟ value_of other.im) (complex_by result) }
     {
-        difference_in_steps::<C, R>(self, other)
+        self.plus::<R>(-other)
     }
 }

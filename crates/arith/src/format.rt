@@ -1,6 +1,7 @@
-// The formats, by their codes.
-ghost use Rattle.std.specs.Prelude.{◌≡◌};
-ghost use Rattle.arith.specs.Format.{format_of};
+// The formats, each by a name of its own, which is a type.
+ghost use Rattle.std.specs.Prelude.{◌≡◌, ◌+◌, ◌-◌, ◌*◌, ◌^◌, ◌<◌, ◌≤◌};
+
+use rounding::Precision;
 
 // A format: how many binary digits its significands have, its largest exponent, and the bits of a pattern.
 #[derive(Clone, Copy)]
@@ -8,29 +9,84 @@ pub struct Format {
     pub precision: u32,
     pub emax: u32,
     pub width: u32,
+    // significands, exponents and patterns that the code's numbers hold
+    ghost some_digit: { 0 < precision },
+    ghost few_digits: { precision ≤ 24 },
+    ghost some_exponent: { 0 < emax },
+    ghost few_exponents: { emax ≤ 127 },
+    ghost few_bits: { width ≤ 32 },
+    // the bits that the sign and the fraction leave are the exponent field: it has a value for each exponent from 1 − emax to emax, and two
+    // more
+    ghost exponent_field: { 2 ^ (width - precision) ≡ 2 * emax + 2 },
 }
 
-impl Format {
-    // The format of a code: 1 is binary16, 2 is bfloat16; any other code stands for binary32, whose own code is 3.
-    pub fn of_code(code: u8) -> Format
-        ensures { result ≡ format_of code }
-    {
-        match code {
-            1 => Format {
-                precision: 11,
-                emax: 15,
-                width: 16,
-            },
-            2 => Format {
-                precision: 8,
-                emax: 127,
-                width: 16,
-            },
-            _ => Format {
-                precision: 24,
-                emax: 127,
-                width: 32,
-            },
+impl From<Format> for Precision {
+    ghost from_gives = { λ f p. p.bits ≡ f.precision };
+
+    fn from(format: Format) -> Precision {
+        Precision {
+            bits: format.precision,
+        }
+    }
+}
+
+// A format by its name; its meaning is the format.
+pub trait NamedFormat: Copy {
+    ghost use Rattle.arith.specs.declared.format.Format.{Format};
+
+    ghost format: { Format };
+
+    fn format() -> Format
+        ensures { result ≡ format };
+}
+
+#[derive(Clone, Copy)]
+pub struct Binary16;
+
+impl NamedFormat for Binary16 {
+    ghost use Rattle.arith.specs.Format.{binary16};
+
+    ghost format = { binary16 };
+
+    fn format() -> Format {
+        Format {
+            precision: 11,
+            emax: 15,
+            width: 16,
+        }
+    }
+}
+
+#[derive(Clone, Copy)]
+pub struct Bfloat16;
+
+impl NamedFormat for Bfloat16 {
+    ghost use Rattle.arith.specs.Format.{bfloat16};
+
+    ghost format = { bfloat16 };
+
+    fn format() -> Format {
+        Format {
+            precision: 8,
+            emax: 127,
+            width: 16,
+        }
+    }
+}
+
+#[derive(Clone, Copy)]
+pub struct Binary32;
+
+impl NamedFormat for Binary32 {
+    ghost use Rattle.arith.specs.Format.{binary32};
+
+    ghost format = { binary32 };
+
+    fn format() -> Format {
+        Format {
+            precision: 24,
+            emax: 127,
+            width: 32,
         }
     }
 }

@@ -10,15 +10,13 @@ mod fault;
 mod format;
 mod number;
 mod pattern;
-mod stepped;
 mod steps;
 mod term;
 
 pub use complex::Complex;
 pub use fault::{RangeFault, StepFault};
-pub use format::Format;
+pub use format::{Bfloat16, Binary16, Binary32, Format, NamedFormat};
 pub use number::Number;
 pub use pattern::PatternFault;
-pub use stepped::Stepped;
 pub use steps::{step, step_difference, step_sum, step_term};
 pub use term::Term;

@@ -1,121 +1,98 @@
 // A step: an exact value is rounded by a rule, and then its range is looked at.
 ghost use Rattle.std.specs.Prelude.{◌≡◌};
 ghost use Rattle.exact.specs.Exact.{HasPrecision, ◌⊞◌, ◌⊟◌};
-ghost use Rattle.exact.specs.Parts.{parts};
-ghost use Rattle.exact.specs.Rounding.{RoundAlike};
-ghost use Rattle.rounding.specs.Values.{unrounded_value};
-ghost use Rattle.arith.specs.Format.{format_of};
-ghost use Rattle.arith.specs.Step.{in_range, stepped, step_parts, RightlyRounded, LossHasPrecision};
+ghost use Rattle.rounding.specs.Values.{exact_value, RoundsAs};
+ghost use Rattle.arith.specs.Number.{parts_by};
+ghost use Rattle.arith.specs.Step.{stepped, RightlyRounded, LossHasPrecision};
 ghost use Rattle.arith.specs.Term.{term_value, scaled_term};
 
 use crate::fault::RangeFault;
-use crate::format::Format;
+use crate::format::NamedFormat;
 use crate::number::Number;
-use crate::stepped::{Rounded, Stepped};
 use crate::term::Term;
-use rounding::{Precision, Rule, Unrounded};
+use rounding::{Addend, Precision, Rule, Unrounded};
+use std::marker::PhantomData;
 
-// The precision of a format.
-fn precision<const C: u8>() -> Precision
-    ensures { result.bits ≡ (format_of C).precision }
+// One step by its definition: the value is rounded, and then its range is looked at. A zero is a result.
+fn round_and_judge<F: NamedFormat, R: Rule>(t: Unrounded) -> Result<Number<F>, RangeFault>
+    ensures { parts_by result ≡ stepped F.format R.Rule.rn (exact_value t) }
 {
-    Precision {
-        bits: Format::of_code(C).precision,
+    let (significand, exponent) = R::round(Precision::from(F::format()), t);
+    let emax = F::format().emax as i32;
+    if significand == 0 {
+        return Ok(Number::zero());
     }
-}
-
-// The range is looked at: a zero is a result.
-fn in_range<const C: u8>(x: Rounded<C>) -> Result<Stepped<C>, RangeFault>
-    ensures { step_parts result ≡ in_range (format_of C) (parts x.entry.negative x.entry.significand x.entry.exponent) }
-{
-    let emax = Format::of_code(C).emax as i32;
-    if x.significand == 0 {
-        return Ok(Stepped {
-            number: Number::zero(),
-        });
-    }
-    if x.exponent > emax {
+    if exponent > emax {
         return Err(RangeFault::Above);
     }
-    if x.exponent < 1 - emax {
+    if exponent < 1 - emax {
         return Err(RangeFault::Below);
     }
-    Ok(Stepped {
-        number: Number {
-            negative: x.negative,
-            significand: x.significand,
-            exponent: x.exponent,
-        },
-    })
-}
-
-// One step by its definition: the value is rounded, and then judged.
-fn round_and_judge<const C: u8, R: Rule>(t: Unrounded) -> Result<Stepped<C>, RangeFault>
-    ensures { step_parts result ≡ stepped (format_of C) R.Rule.rn (unrounded_value t) }
-{
-    let (significand, exponent) = R::round(precision::<C>(), t);
-    in_range(Rounded::<C> {
-        negative: t.negative,
+    Ok(Number {
+        negative: t.is_negative(),
         significand,
         exponent,
+        format: PhantomData,
     })
 }
 
-// The sum of two terms as a rule is given it.
-fn sum_of<const C: u8>(x: Term<C>, y: Term<C>) -> Unrounded
-    ensures { RoundAlike 24 (unrounded_value result) (scaled_term x.entry ⊞ scaled_term y.entry) }
+// The sum of two terms as a rule is given it. Each of this function and the next two is one call; what is promised of the call stands
+// here, apart from the steps' own laws, so that a must-fail edit of it fails in the code.
+fn sum_of<F: NamedFormat>(x: Term<F>, y: Term<F>) -> Unrounded
+    ensures { RoundsAs result (scaled_term x ⊞ scaled_term y) }
 {
-    Unrounded::sum(x.addend(), y.addend())
+    Unrounded::sum(x.into(), y.into())
 }
 
 // The difference, likewise.
-fn difference_of<const C: u8>(x: Term<C>, y: Term<C>) -> Unrounded
-    ensures { RoundAlike 24 (unrounded_value result) (scaled_term x.entry ⊟ scaled_term y.entry) }
+fn difference_of<F: NamedFormat>(x: Term<F>, y: Term<F>) -> Unrounded
+    ensures { RoundsAs result (scaled_term x ⊟ scaled_term y) }
 {
-    Unrounded::difference(x.addend(), y.addend())
+    Unrounded::difference(x.into(), y.into())
 }
 
 // A term alone, likewise.
-fn value_of<const C: u8>(x: Term<C>) -> Unrounded
-    ensures { unrounded_value result ≡ scaled_term x.entry }
+fn value_of<F: NamedFormat>(x: Term<F>) -> Unrounded
+    ensures { exact_value result ≡ scaled_term x }
 {
-    Unrounded::alone(x.addend())
+    Unrounded::from(Addend::from(x))
 }
 
 // One step on an exact value.
-pub fn step<const C: u8, R: Rule>(t: Unrounded) -> Result<Stepped<C>, RangeFault>
-    ensures defined { step_parts result ≡ stepped (format_of C) R.Rule.rn (unrounded_value t) }
-    ensures rightly_rounded { RightlyRounded (format_of C) (unrounded_value t) (step_parts result) }
+pub fn step<F: NamedFormat, R: Rule>(t: Unrounded) -> Result<Number<F>, RangeFault>
+    ensures defined { parts_by result ≡ stepped F.format R.Rule.rn (exact_value t) }
+    ensures rightly_rounded { RightlyRounded F.format (exact_value t) (parts_by result) }
 {
-    round_and_judge::<C, R>(t)
+    round_and_judge::<F, R>(t)
 }
 
 // One step on a term.
-pub fn step_term<const C: u8, R: Rule>(x: Term<C>) -> Result<Stepped<C>, RangeFault>
-    ensures defined { step_parts result ≡ stepped (format_of C) R.Rule.rn (term_value x.entry) }
-    ensures rightly_rounded { RightlyRounded (format_of C) (term_value x.entry) (step_parts result) }
-    ensures loss_has_precision { LossHasPrecision (format_of C) (term_value x.entry) (step_parts result) }
+pub fn step_term<F: NamedFormat, R: Rule>(x: Term<F>) -> Result<Number<F>, RangeFault>
+    ensures defined { parts_by result ≡ stepped F.format R.Rule.rn (term_value x) }
+    ensures rightly_rounded { RightlyRounded F.format (term_value x) (parts_by result) }
+    ensures loss_has_precision { LossHasPrecision F.format (term_value x) (parts_by result) }
 {
-    round_and_judge::<C, R>(value_of(x))
+    round_and_judge::<F, R>(value_of(x))
 }
 
 // One step on the sum of two terms.
-pub fn step_sum<const C: u8, R: Rule>(x: Term<C>, y: Term<C>) -> Result<Stepped<C>, RangeFault>
-    ensures defined { step_parts result ≡ stepped (format_of C) R.Rule.rn (term_value x.entry ⊞ term_value y.entry) }
-    ensures rightly_rounded { RightlyRounded (format_of C) (term_value x.entry ⊞ term_value y.entry) (step_parts result) }
-    ensures loss_has_precision { HasPrecision (format_of C).precision (term_value x.entry) → HasPrecision (format_of C).precision (term_value y.entry) → LossHasPrecision (format_of C) (term_value x.entry ⊞ term_value y.entry) (step_parts result) }
+pub fn step_sum<F: NamedFormat, R: Rule>(x: Term<F>, y: Term<F>) -> Result<Number<F>, RangeFault>
+    ensures defined { parts_by result ≡ stepped F.format R.Rule.rn (term_value x ⊞ term_value y) }
+    ensures rightly_rounded { RightlyRounded F.format (term_value x ⊞ term_value y) (parts_by result) }
+    ensures loss_has_precision { HasPrecision F.format.precision (term_value x) → HasPrecision F.format.precision (term_value y) → LossHasPrecision F.format (term_value x ⊞ term_value y) (parts_by result) }
 {
-    round_and_judge::<C, R>(sum_of(x, y))
+    round_and_judge::<F, R>(sum_of(x, y))
 }
 
-// One step on the difference of two terms.
-pub fn step_difference<const C: u8, R: Rule>(
-    x: Term<C>,
-    y: Term<C>,
-) -> Result<Stepped<C>, RangeFault>
-    ensures defined { step_parts result ≡ stepped (format_of C) R.Rule.rn (term_value x.entry ⊟ term_value y.entry) }
-    ensures rightly_rounded { RightlyRounded (format_of C) (term_value x.entry ⊟ term_value y.entry) (step_parts result) }
-    ensures loss_has_precision { HasPrecision (format_of C).precision (term_value x.entry) → HasPrecision (format_of C).precision (term_value y.entry) → LossHasPrecision (format_of C) (term_value x.entry ⊟ term_value y.entry) (step_parts result) }
+// One step on the difference of two terms. It is not made of step_sum(x, -y): that was tried, and the checker does not find the
+// third clause by itself.
+pub fn step_difference<F: NamedFormat, R: Rule>(
+    x: Term<F>,
+    y: Term<F>,
+) -> Result<Number<F>, RangeFault>
+    ensures defined { parts_by result ≡ stepped F.format R.Rule.rn (term_value x ⊟ term_value y) }
+    ensures rightly_rounded { RightlyRounded F.format (term_value x ⊟ term_value y) (parts_by result) }
+    ensures loss_has_precision { HasPrecision F.format.precision (term_value x) → HasPrecision F.format.precision (term_value y) → LossHasPrecision F.format (term_value x ⊟ term_value y) (parts_by result) }
 {
-    round_and_judge::<C, R>(difference_of(x, y))
+    round_and_judge::<F, R>(difference_of(x, y))
 }

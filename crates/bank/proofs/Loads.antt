@@ -8,7 +8,6 @@ use Rattle.arith.specs.Sequence.{and_then}
 use Rattle.arith.specs.declared.format.Format.{Format}
 use Rattle.arith.specs.declared.pattern.PatternFault.{PatternFault}
 use Rattle.arith.proofs.Accepted.{accepted}
-use Rattle.arith.proofs.Formats.{Sound}
 use Rattle.arith.proofs.Patterns as numbers
 use Rattle.bank.specs.Slots.{Slot, empty, filled}
 use Rattle.arith.specs.Complex.{complex}
@@ -32,9 +31,9 @@ refused_changes_nothing ps qs d r a ea eq e = eq ∙ unwritten ps d r (sym (ap i
 pub others_unchanged : (ps qs : List Slot) (d : ℕ) (r : Result Slot Fault) → qs ≡ written ps d r → (k : ℕ) → (k ≡ d → ⊥) → get_or qs k empty ≡ get_or ps k empty
 others_unchanged ps qs d r eq k h = ap (λ l. get_or l k empty) eq ∙ elsewhere ps d r k h
 
-module _ (f : Format) (s : Sound f) where
+module _ (f : Format) where
   encoded_again : (n : ℕ) (x : Parts) → decoded f n ≡ Ok x → encoded f x ≡ plain_zero f n
-  encoded_again n x e = numbers.shown f s n x (accepted f n x e)
+  encoded_again n x e = numbers.shown f n x (accepted f n x e)
 
   -- an accepted load is one of a place that is there, and puts a slot into it that shows the two patterns
   pub loaded_shows : (d m n : ℕ) → IfOk (loaded f d m n) (λ t. (ltb 15 d ≡ false) × (shown_of f t ≡ Ok (patterns (plain_zero f m) (plain_zero f n) 0)))

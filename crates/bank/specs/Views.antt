@@ -1,19 +1,18 @@
 -- The places of a bank as their contents.
-use Rattle.std.specs.Prelude.{ℕ, List, [], ◌∷◌}
-use Rattle.arith.specs.Number.{parts_of}
+use Rattle.std.specs.Prelude.{List, [], ◌∷◌, Option, Some, None}
+use Rattle.arith.specs.Complex.{complex_parts}
+use Rattle.arith.specs.declared.format.NamedFormat.{Ghosts}
 use Rattle.bank.specs.Slots.{Slot, empty, filled}
-use Rattle.arith.specs.Complex.{complex}
-use Rattle.bank.specs.declared.place.Place.{Place}
-use Rattle.bank.specs.declared.place.Place.TheVariants.{Empty, Filled}
+use Rattle.bank.specs.declared.place.Held.{Held}
 use Rattle.bank.specs.declared.store.Bank.{Bank}
 
-abbrev pub slot : {C : ℕ} → Place C → Slot
-slot Empty = empty
-slot (Filled z n) = filled (complex (parts_of z.re) (parts_of z.im)) n.count
+abbrev pub slot : {F : Type 0} {g : Ghosts F} → Option (Held F g) → Slot
+slot None = empty
+slot (Some h) = filled (complex_parts h.number) h.depth.count
 
-abbrev pub slots : {C : ℕ} → List (Place C) → List Slot
+abbrev pub slots : {F : Type 0} {g : Ghosts F} → List (Option (Held F g)) → List Slot
 slots [] = []
 slots (p ∷ ps) = slot p ∷ slots ps
 
-abbrev pub holds : {C : ℕ} → Bank C → List Slot
+abbrev pub holds : {F : Type 0} {g : Ghosts F} → Bank F g → List Slot
 holds b = slots b.places

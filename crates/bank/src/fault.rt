@@ -6,7 +6,7 @@ ghost use Rattle.bank.specs.declared.fault.Fault.TheVariants.{Pattern};
 use arith::PatternFault;
 
 // Why a call is refused.
-#[derive(Clone, Copy)]
+#[derive(Clone, Copy, Debug, PartialEq, Eq)]
 pub enum Fault {
     // there is no such place
     NoSuchPlace,
@@ -25,15 +25,14 @@ impl From<PatternFault> for Fault {
 }
 
 impl Fault {
-    // The number that a refusal is known by.
+    // The number that a refusal is known by. An enum with a field has no discriminants that could be it.
     pub fn number(self) -> u8
         ensures { result ≡ number_of self }
     {
         match self {
             Fault::NoSuchPlace => 1,
             Fault::EmptyPlace => 2,
-            Fault::Pattern(PatternFault::Invalid) => 3,
-            Fault::Pattern(PatternFault::Subnormal) => 4,
+            Fault::Pattern(e) => e.number(),
         }
     }
 }

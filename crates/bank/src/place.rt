@@ -1,7 +1,7 @@
-// What a place holds.
+// What a filled place holds.
 ghost use Rattle.std.specs.Prelude.{◌≤◌};
 
-use arith::{Complex, Number};
+use arith::{Complex, NamedFormat, Number};
 
 // A depth from 0 to 4,095. A loaded number has depth 0.
 #[derive(Clone, Copy)]
@@ -11,10 +11,7 @@ pub struct Depth {
 }
 
 #[derive(Clone, Copy)]
-pub enum Place<const C: u8> {
-    Empty,
-    Filled {
-        number: Complex<Number<C>>,
-        depth: Depth,
-    },
+pub struct Held<F: NamedFormat> {
+    pub(crate) number: Complex<Number<F>>,
+    pub(crate) depth: Depth,
 }

@@ -1,50 +1,47 @@
 // The bank and its calls.
 ghost use Rattle.std.specs.Prelude.{◌≡◌, ℕ, ◌<◌, true, length, is_err, Ok, OnOk, ◌≢◌, slice_index_or, slice_set};
-ghost use Rattle.arith.specs.Format.{format_of};
 ghost use Rattle.arith.specs.Pattern.{plain_zero};
 ghost use Rattle.bank.specs.Slots.{empty, fresh};
 ghost use Rattle.bank.specs.Calls.{loaded, told, written, shown, patterns};
 ghost use Rattle.bank.specs.Views.{holds, slot};
 
 use crate::fault::Fault;
-use crate::place::{Depth, Place};
-use arith::{Complex, Number};
+use crate::place::{Depth, Held};
+use arith::{Complex, NamedFormat, Number};
 
 // The patterns of a number and its depth.
-#[derive(Clone, Copy)]
+#[derive(Clone, Copy, Debug, PartialEq, Eq)]
 pub struct Shown {
     pub re: u32,
     pub im: u32,
     pub depth: u16,
 }
 
-// Sixteen places for numbers of the format with the code C.
+// Sixteen places for numbers of the format F.
 #[derive(Drop)]
-pub struct Bank<const C: u8> {
-    places: [Place<C>; 16],
+pub struct Bank<F: NamedFormat> {
+    places: [Option<Held<F>>; 16],
 }
 
-impl<const C: u8> Bank<C> {
+impl<F: NamedFormat> Bank<F> {
     // A bank whose places are all empty.
-    pub fn new() -> Bank<C>
+    pub fn new() -> Bank<F>
         ensures { holds result ≡ fresh }
     {
-        Bank {
-            places: [Place::Empty; 16],
-        }
+        Bank { places: [None; 16] }
     }
 
     // Puts what is to be held into a place.
-    fn put(&mut self, place: u8, held: Place<C>)
+    fn put(&mut self, place: u8, held: Held<F>)
         requires { place < 16 }
-        ensures places { holds self.new ≡ slice_set (holds self.old) place (slot held.entry) }
+        ensures places { holds self.new ≡ slice_set (holds self.old) place (slot (Some held)) }
         ensures there { place < length (holds self.old) }
     {
-        self.places[place as usize] = held;
+        self.places[place as usize] = Some(held);
     }
 
-    // What a place holds.
-    fn at(&self, place: u8) -> Place<C>
+    // What a place holds, if it is filled.
+    fn at(&self, place: u8) -> Option<Held<F>>
         requires { place < 16 }
         ensures { slot result ≡ slice_index_or (holds self.now) place empty }
     {
@@ -53,8 +50,8 @@ impl<const C: u8> Bank<C> {
 
     // Reads two patterns, the real one wholly before the imaginary, and puts their number into a place with depth 0.
     fn fill(&mut self, place: u8, re: u32, im: u32) -> Result<(), Fault>
-        ensures answer { result ≡ told (loaded (format_of C) place re im) }
-        ensures places { holds self.new ≡ written (holds self.old) place (loaded (format_of C) place re im) }
+        ensures answer { result ≡ told (loaded F.format place re im) }
+        ensures places { holds self.new ≡ written (holds self.old) place (loaded F.format place re im) }
         ensures there { OnOk result (place < length (holds self.old)) }
     {
         if place > 15 {
@@ -64,35 +61,33 @@ impl<const C: u8> Bank<C> {
         let im = Number::from_pattern(im)?;
         let number = Complex { re, im };
         let depth = Depth { count: 0 };
-        self.put(place, Place::Filled { number, depth });
+        self.put(place, Held { number, depth });
         Ok(())
     }
 
     // Puts the number of two patterns into a place with depth 0.
     pub fn load(&mut self, place: u8, re: u32, im: u32) -> Result<(), Fault>
-        ensures answer { result ≡ told (loaded (format_of C) place re im) }
-        ensures places { holds self.new ≡ written (holds self.old) place (loaded (format_of C) place re im) }
+        ensures answer { result ≡ told (loaded F.format place re im) }
+        ensures places { holds self.new ≡ written (holds self.old) place (loaded F.format place re im) }
         ensures refused_changes_nothing { is_err result ≡ true → holds self.new ≡ holds self.old }
         ensures others_unchanged { (k : ℕ) → (k ≢ place) → slice_index_or (holds self.new) k empty ≡ slice_index_or (holds self.old) k empty }
-        ensures shown_again { OnOk result (shown (format_of C) (holds self.new) place ≡ Ok (patterns (plain_zero (format_of C) re) (plain_zero (format_of C) im) 0)) }
+        ensures shown_again { OnOk result (shown F.format (holds self.new) place ≡ Ok (patterns (plain_zero F.format re) (plain_zero F.format im) 0)) }
     {
         self.fill(place, re, im)
     }
 
     // The two patterns and the depth of a place.
     pub fn show(&self, place: u8) -> Result<Shown, Fault>
-        ensures { result ≡ shown (format_of C) (holds self.now) place }
+        ensures { result ≡ shown F.format (holds self.now) place }
     {
         if place > 15 {
             return Err(Fault::NoSuchPlace);
         }
-        match self.at(place) {
-            Place::Empty => Err(Fault::EmptyPlace),
-            Place::Filled { number, depth } => Ok(Shown {
-                re: number.re.pattern(),
-                im: number.im.pattern(),
-                depth: depth.count,
-            }),
-        }
+        let held = self.at(place).ok_or(Fault::EmptyPlace)?;
+        Ok(Shown {
+            re: held.number.re.pattern(),
+            im: held.number.im.pattern(),
+            depth: held.depth.count,
+        })
     }
 }

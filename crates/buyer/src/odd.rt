@@ -2,10 +2,9 @@
 ghost use Rattle.std.specs.Prelude.{◌≡◌};
 ghost use Rattle.exact.specs.Ties.{nearest_by};
 ghost use Rattle.arith.specs.Complex.{complex_by, complex_parts, complex_sum};
-ghost use Rattle.arith.specs.Format.{format_of};
 ghost use Rattle.buyer.specs.Rules.{to_odd};
 
-use arith::{Complex, Number, StepFault};
+use arith::{Complex, NamedFormat, Number, StepFault};
 use rounding::{Nearest, TieBreak};
 
 #[derive(Clone, Copy)]
@@ -19,12 +18,12 @@ impl TieBreak for ToOdd {
     }
 }
 
-// The library's sum in the format with the code C, by this rule.
-pub fn sum_to_odd<const C: u8>(
-    x: Complex<Number<C>>,
-    y: Complex<Number<C>>,
-) -> Result<Complex<Number<C>>, StepFault>
-    ensures { complex_by result ≡ complex_sum (format_of C) (nearest_by to_odd) (complex_parts x.entry) (complex_parts y.entry) }
+// The library's sum in the format F, by this rule.
+pub fn sum_to_odd<F: NamedFormat>(
+    x: Complex<Number<F>>,
+    y: Complex<Number<F>>,
+) -> Result<Complex<Number<F>>, StepFault>
+    ensures { complex_by result ≡ complex_sum F.format (nearest_by to_odd) (complex_parts x) (complex_parts y) }
 {
     x.plus::<Nearest<ToOdd>>(y)
 }

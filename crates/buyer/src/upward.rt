@@ -14,7 +14,7 @@ impl Rule for TiesUpward {
     ghost rounds = { upward_rounds };
 
     fn round(p: Precision, t: Unrounded) -> (u32, i32) {
-        if t.negative {
+        if t.is_negative() {
             Nearest::<TowardZero>::round(p, t)
         } else {
             Nearest::<AwayFromZero>::round(p, t)

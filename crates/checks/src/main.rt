@@ -2,21 +2,12 @@
 // and data/NAME.out what it prints. Then tapes of the greatest length, and line buffers of the least.
 #![tactic(auto)]
 
+use arith::{Bfloat16, Binary16};
 use bank::Bank;
-use run::{FreshRun, OpenedRun, Opening, Taking};
+use run::{AfterRecord, FreshRun, NoRoom, OpenedRun};
 use std::alloc::{AllocError, Global};
 use std::io::Write;
 use std::{fs, io};
-
-// What a hexadecimal digit stands for.
-fn digit(b: u8) -> Option<u8> {
-    match b {
-        b'0'..=b'9' => Some(b - b'0'),
-        b'A'..=b'F' => Some(b - b'A' + 10),
-        b'a'..=b'f' => Some(b - b'a' + 10),
-        _ => None,
-    }
-}
 
 // Whether a byte may stand between two others.
 fn is_between(b: u8) -> bool {
@@ -35,22 +26,16 @@ fn tape_of(heap: Global, text: &[u8]) -> Result<Option<Vec<u8>>, AllocError> {
         } else if *b == b'#' {
             comment = true;
         } else if !comment && !is_between(*b) {
-            let Some(low) = digit(*b) else {
+            let Some(low) = char::from(*b).to_digit(16) else {
                 return Ok(None);
             };
-            match high {
+            match high.take() {
                 None => high = Some(low),
-                Some(h) => {
-                    tape.push((h & 15) << 4 | low)?;
-                    high = None;
-                }
+                Some(h) => tape.push(((h << 4 | low) & 0xFF) as u8)?,
             }
         }
     }
-    match high {
-        None => Ok(Some(tape)),
-        Some(_) => Ok(None),
-    }
+    Ok(high.is_none().then_some(tape))
 }
 
 // Whether a tape prints what it should.
@@ -109,8 +94,8 @@ fn check_many(rt: &HostRuntime) -> io::Result<()> {
 
 // Patterns that do not fit a format's bits, which no tape can carry.
 fn check_too_wide(rt: &HostRuntime, pattern: u32) -> io::Result<()> {
-    let mut half = Bank::<1>::new();
-    let mut brain = Bank::<2>::new();
+    let mut half = Bank::<Binary16>::new();
+    let mut brain = Bank::<Bfloat16>::new();
     for answer in [
         half.load(0, pattern, 0),
         half.load(0, 0, pattern),
@@ -130,13 +115,7 @@ fn check_too_wide(rt: &HostRuntime, pattern: u32) -> io::Result<()> {
 
 // How many bytes of a buffer are not 170.
 fn written(buffer: &[u8]) -> usize {
-    let mut n = 0usize;
-    for b in buffer {
-        if *b != 170 {
-            n = n.saturating_add(1);
-        }
-    }
-    n
+    buffer.iter().filter(|b| **b != 170).count()
 }
 
 // Opens a run with a line buffer of 95 bytes, which is refused, and then with one of 96.
@@ -146,13 +125,13 @@ fn check_opening<'a>(rt: &HostRuntime, tape: &'a [u8]) -> io::Result<Option<Open
     let Ok(fresh) = FreshRun::new(tape) else {
         return Ok(None);
     };
-    let Opening::NoRoom { run, refusal } = fresh.open(&mut short) else {
+    let Err(NoRoom { run, refusal }) = fresh.open(&mut short) else {
         return Ok(None);
     };
     let number = refusal.number();
     let touched = written(&short);
     println!(rt; "opening with 95 bytes: {number}, {touched} bytes written")?;
-    let Opening::Opened { run, line } = run.open(&mut enough) else {
+    let Ok((AfterRecord::Running(run), line)) = run.open(&mut enough) else {
         return Ok(None);
     };
     let touched = written(&enough);
@@ -160,18 +139,18 @@ fn check_opening<'a>(rt: &HostRuntime, tape: &'a [u8]) -> io::Result<Option<Open
     Ok(Some(run))
 }
 
-// The same, taking a record.
+// The same, taking a record. (One function over both calls, with the call as a closure, was tried: the closure's proof did not close.)
 fn check_taking(rt: &HostRuntime, opened: OpenedRun<'_>) -> io::Result<()> {
     let mut short = [170u8; 95];
     let mut enough = [170u8; 96];
-    let mut bank = Bank::<1>::new();
-    let Taking::NoRoom { run, refusal } = opened.take_record(&mut bank, &mut short) else {
+    let mut bank = Bank::<Binary16>::new();
+    let Err(NoRoom { run, refusal }) = opened.take_record(&mut bank, &mut short) else {
         return Ok(());
     };
     let number = refusal.number();
     let touched = written(&short);
     println!(rt; "taking with 95 bytes: {number}, {touched} bytes written")?;
-    let Taking::Ended { run, line } = run.take_record(&mut bank, &mut enough) else {
+    let Ok((AfterRecord::Ended(run), line)) = run.take_record(&mut bank, &mut enough) else {
         return Ok(());
     };
     let records = run.records();

@@ -1,8 +1,9 @@
 -- What a whole record asks for, or why it is refused: its kind is judged first, then its order, its length, and its payload.
-use Rattle.std.specs.Prelude.{◌≡◌, ℕ, ◌+◌, ◌*◌, ◌≤◌, Bool, true, cond, ◌&&◌, List, [], ◌∷◌, length, take, drop, Ok, Err, Result, ◌==◌, nat_le, slice_index}
+use Rattle.std.specs.Prelude.{◌≡◌, ℕ, ◌+◌, Bool, cond, List, length, take, drop, Ok, Err, Result, ◌==◌, slice_index}
 use Rattle.std.specs.Borrow.{Bor}
 use Rattle.arith.specs.Sequence.{and_then}
 use Rattle.arith.specs.declared.format.Format.{Format}
+use Rattle.records.specs.Bytes.{little_endian, printable}
 use Rattle.records.specs.Codes.{format_by, method_by}
 use Rattle.records.specs.Frames.{Framed, Part}
 use Rattle.records.specs.Kinds.{kind_of, pattern_bytes, open_bytes, right_length}
@@ -13,8 +14,8 @@ use Rattle.records.specs.declared.fault.RecordFault.{RecordFault}
 use Rattle.records.specs.declared.fault.RecordFault.TheVariants.{WrongLength, OutOfOrder, NotText}
 use Rattle.records.specs.declared.kind.Kind.{Kind}
 use Rattle.records.specs.declared.kind.Kind.TheVariants.{Open, Load, Show, Note, End}
-use Rattle.records.specs.declared.reader.Record.{Record}
-use Rattle.records.specs.declared.reader.Record.TheVariants as records
+use Rattle.records.specs.declared.record.Record.{Record}
+use Rattle.records.specs.declared.record.Record.TheVariants as records
 
 -- what a record behind the opening one asks for: two patterns into a place, to show a place, a note, or the end
 pub data Asked : Type 0 where
@@ -22,16 +23,6 @@ pub data Asked : Type 0 where
   show : ℕ → Asked
   note : List ℕ → Asked
   end : Asked
-
--- bytes as a number, the low byte first
-abbrev pub little_endian : List ℕ → ℕ
-little_endian [] = 0
-little_endian (b ∷ bs) = b + 256 * little_endian bs
-
--- bytes of text, each from 32 to 126
-abbrev pub printable : List ℕ → Bool
-printable [] = true
-printable (b ∷ bs) = (nat_le 32 b && nat_le b 126) && printable bs
 
 -- an answer about a payload, if its length is right
 abbrev pub sized : {X : Type 0} → Bool → Result X RecordFault → Result X RecordFault
@@ -72,9 +63,9 @@ opening r = and_then (kind_of r.kind) (opening_by r.payload)
 
 -- what the code's records stand for
 abbrev pub asked_for : Record → Asked
-asked_for (records.Load d re im) = load d (little_endian re.now) (little_endian im.now)
+asked_for (records.Load d re im) = load d (little_endian re.bytes.now) (little_endian im.bytes.now)
 asked_for (records.Show d) = show d
-asked_for (records.Note t) = note t.now
+asked_for (records.Note t) = note t.bytes.now
 asked_for records.End = end
 
 -- the same for an answer that may be a refusal
@@ -84,14 +75,7 @@ asking (Err e) = Err e
 
 -- a record's patterns and texts are parts of the payload: the patterns one behind the other, and the text the whole of it
 abbrev pub PartOf : Format → Bor (List ℕ) → Record → Type 0
-PartOf f p (records.Load d re im) = Part p re 1 (pattern_bytes f) × Part p im (1 + pattern_bytes f) (pattern_bytes f)
+PartOf f p (records.Load d re im) = Part p re.bytes 1 (pattern_bytes f) × Part p im.bytes (1 + pattern_bytes f) (pattern_bytes f)
 PartOf f p (records.Show d) = Unit {0}
-PartOf f p (records.Note t) = t ≡ p
+PartOf f p (records.Note t) = t.bytes ≡ p
 PartOf f p records.End = Unit {0}
-
--- a pattern has at most four bytes, and a text at most 64
-abbrev pub Fits : Record → Type 0
-Fits (records.Load d re im) = (length re.now ≤ 4) × (length im.now ≤ 4)
-Fits (records.Show d) = Unit {0}
-Fits (records.Note t) = length t.now ≤ 64
-Fits records.End = Unit {0}

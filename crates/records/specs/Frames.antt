@@ -1,5 +1,5 @@
 -- A record as it lies on the tape: four leading bytes, and then its payload.
-use Rattle.std.specs.Prelude.{◌≡◌, ℕ, ◌+◌, ◌-◌, ◌*◌, ◌≤◌, cond, List, length, take, drop, Ok, Err, Result, nat_lt, slice_index}
+use Rattle.std.specs.Prelude.{◌≡◌, ℕ, ◌+◌, ◌*◌, cond, List, length, take, drop, Ok, Err, Result, nat_lt, slice_index}
 use Rattle.std.specs.Borrow.{Bor}
 use Rattle.records.specs.declared.fault.RecordFault.{RecordFault}
 use Rattle.records.specs.declared.fault.RecordFault.TheVariants.{MissingPart}
@@ -23,19 +23,16 @@ pub record Part (whole part : Bor (List ℕ)) (from size : ℕ) : Type 0 where
   pub block : part.ref_ptr.0 ≡ whole.ref_ptr.0
   pub offset : part.ref_ptr.1 ≡ whole.ref_ptr.1 + from
 
--- four leading bytes, and the part behind them
-pub record Heads (bytes : Bor (List ℕ)) (size kind : ℕ) (behind : Bor (List ℕ)) : Type 0 where
-  pub four : 4 ≤ length bytes.now
-  pub size_is : size ≡ word16 bytes.now 0
-  pub kind_is : kind ≡ word16 bytes.now 2
-  pub rest : Part bytes behind 4 (length bytes.now - 4)
-
 -- The record at the front of some bytes: the payload's length and the kind, 16 bits each, and then the payload.
 -- Where not all of these bytes are there, it is refused.
 abbrev pub front : List ℕ → Result Framed RecordFault
 front bs = cond (nat_lt (length bs) (4 + word16 bs 0)) (Err MissingPart) (Ok (frame (word16 bs 2) (take (word16 bs 0) (drop 4 bs))))
 
--- what the code's answer stands for
+-- what the code's frame stands for
+abbrev pub contents : Frame → Framed
+contents f = frame f.kind f.payload.now
+
+-- the same for an answer that may be a refusal
 abbrev pub framed : Result Frame RecordFault → Result Framed RecordFault
-framed (Ok f) = Ok (frame f.kind f.payload.now)
+framed (Ok f) = Ok (contents f)
 framed (Err e) = Err e

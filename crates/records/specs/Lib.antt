@@ -1,3 +1,4 @@
+pub mod Bytes
 pub mod Numbers
 pub mod Codes
 pub mod Kinds

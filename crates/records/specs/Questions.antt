@@ -1,7 +1,7 @@
 -- The questions that a whole record is asked, in turn. The refusal is that of the first one that is answered with no.
 use Rattle.std.specs.Prelude.{ℕ, Bool, true, false, cond, not, ◌&&◌, List, [], ◌∷◌, length, is_ok, Some, None, Ok, Err, Option, Result, ◌==◌, slice_index}
 use Rattle.arith.specs.declared.format.Format.{Format}
-use Rattle.records.specs.Asked.{printable}
+use Rattle.records.specs.Bytes.{printable}
 use Rattle.records.specs.Codes.{format_by, method_by}
 use Rattle.records.specs.Frames.{Framed}
 use Rattle.records.specs.Kinds.{kind_of, open_bytes, right_length}

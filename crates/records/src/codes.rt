@@ -4,32 +4,37 @@ ghost use Rattle.records.specs.Codes.{format_by, format_number, method_by, metho
 
 use crate::fault::RecordFault;
 
-#[derive(Clone, Copy)]
+// Each format has a code.
+#[derive(Clone, Copy, Debug, PartialEq, Eq)]
 pub enum FormatCode {
-    Binary16,
-    Bfloat16,
-    Binary32,
+    Binary16 = 1,
+    Bfloat16 = 2,
+    Binary32 = 3,
 }
 
-#[derive(Clone, Copy)]
+// Each method has a code.
+#[derive(Clone, Copy, Debug, PartialEq, Eq)]
 pub enum MethodCode {
-    Separate,
-    Fma,
-    Kahan,
-    Fused,
+    Separate = 1,
+    Fma = 2,
+    Kahan = 3,
+    Fused = 4,
 }
 
 // What a run is opened with.
-#[derive(Clone, Copy)]
+#[derive(Clone, Copy, Debug, PartialEq, Eq)]
 pub struct Codes {
     pub format: FormatCode,
     pub method: MethodCode,
 }
 
-impl FormatCode {
-    pub fn from_code(code: u8) -> Result<FormatCode, RecordFault>
-        ensures { result ≡ format_by code }
-    {
+// The two tables stay apart: a shared text would be a search in a list of the variants, which is longer than a match.
+impl TryFrom<u8> for FormatCode {
+    type Error = RecordFault;
+
+    ghost try_from_gives = { λ code r. r ≡ format_by code };
+
+    fn try_from(code: u8) -> Result<Self, RecordFault> {
         match code {
             1 => Ok(FormatCode::Binary16),
             2 => Ok(FormatCode::Bfloat16),
@@ -37,22 +42,14 @@ impl FormatCode {
             _ => Err(RecordFault::UnknownCode),
         }
     }
-
-    pub fn code(self) -> u8
-        ensures { result ≡ format_number self }
-    {
-        match self {
-            FormatCode::Binary16 => 1,
-            FormatCode::Bfloat16 => 2,
-            FormatCode::Binary32 => 3,
-        }
-    }
 }
 
-impl MethodCode {
-    pub fn from_code(code: u8) -> Result<MethodCode, RecordFault>
-        ensures { result ≡ method_by code }
-    {
+impl TryFrom<u8> for MethodCode {
+    type Error = RecordFault;
+
+    ghost try_from_gives = { λ code r. r ≡ method_by code };
+
+    fn try_from(code: u8) -> Result<Self, RecordFault> {
         match code {
             1 => Ok(MethodCode::Separate),
             2 => Ok(MethodCode::Fma),
@@ -61,15 +58,20 @@ impl MethodCode {
             _ => Err(RecordFault::UnknownCode),
         }
     }
+}
 
-    pub fn code(self) -> u8
-        ensures { result ≡ method_number self }
-    {
-        match self {
-            MethodCode::Separate => 1,
-            MethodCode::Fma => 2,
-            MethodCode::Kahan => 3,
-            MethodCode::Fused => 4,
-        }
+impl From<FormatCode> for u8 {
+    ghost from_gives = { λ format code. code ≡ format_number format };
+
+    fn from(format: FormatCode) -> u8 {
+        format as u8
+    }
+}
+
+impl From<MethodCode> for u8 {
+    ghost from_gives = { λ method code. code ≡ method_number method };
+
+    fn from(method: MethodCode) -> u8 {
+        method as u8
     }
 }

@@ -2,18 +2,19 @@
 ghost use Rattle.std.specs.Prelude.{◌≡◌};
 ghost use Rattle.records.specs.Numbers.{number_of};
 
-#[derive(Clone, Copy)]
+// Each refusal is known by a number.
+#[derive(Clone, Copy, Debug, PartialEq, Eq)]
 pub enum RecordFault {
     // a leading byte or a part of the payload is not there
-    MissingPart,
-    UnknownKind,
-    WrongLength,
+    MissingPart = 9,
+    UnknownKind = 10,
+    WrongLength = 11,
     // a format or a method that has no such code
-    UnknownCode,
+    UnknownCode = 12,
     // an opening record that is not the first, or a first record that does not open
-    OutOfOrder,
+    OutOfOrder = 13,
     // a note with a byte that is not printable
-    NotText,
+    NotText = 14,
 }
 
 impl RecordFault {
@@ -21,13 +22,6 @@ impl RecordFault {
     pub fn number(self) -> u8
         ensures { result ≡ number_of self }
     {
-        match self {
-            RecordFault::MissingPart => 9,
-            RecordFault::UnknownKind => 10,
-            RecordFault::WrongLength => 11,
-            RecordFault::UnknownCode => 12,
-            RecordFault::OutOfOrder => 13,
-            RecordFault::NotText => 14,
-        }
+        self as u8
     }
 }

@@ -1,22 +1,26 @@
 // The kinds of records.
-ghost use Rattle.std.specs.Prelude.{◌≡◌};
+ghost use Rattle.std.specs.Prelude.{◌≡◌, Some};
 ghost use Rattle.records.specs.Kinds.{kind_of, word_of};
 
 use crate::fault::RecordFault;
+use std::fmt;
 
-#[derive(Clone, Copy)]
+// Each kind has a code.
+#[derive(Clone, Copy, Debug, PartialEq, Eq)]
 pub enum Kind {
-    Open,
-    Load,
-    Show,
-    Note,
-    End,
+    Open = 1,
+    Load = 2,
+    Show = 6,
+    Note = 7,
+    End = 8,
 }
 
-impl Kind {
-    pub fn from_code(code: u16) -> Result<Kind, RecordFault>
-        ensures { result ≡ kind_of code }
-    {
+impl TryFrom<u16> for Kind {
+    type Error = RecordFault;
+
+    ghost try_from_gives = { λ code r. r ≡ kind_of code };
+
+    fn try_from(code: u16) -> Result<Self, RecordFault> {
         match code {
             1 => Ok(Kind::Open),
             2 => Ok(Kind::Load),
@@ -26,17 +30,27 @@ impl Kind {
             _ => Err(RecordFault::UnknownKind),
         }
     }
+}
 
+impl Kind {
     // The word that the line of such a record has.
-    pub fn word(self) -> &'static [u8]
+    pub fn word(self) -> &'static str
         ensures { result.now ≡ word_of self }
     {
         match self {
-            Kind::Open => b"open",
-            Kind::Load => b"load",
-            Kind::Show => b"show",
-            Kind::Note => b"note",
-            Kind::End => b"end",
+            Kind::Open => "open",
+            Kind::Load => "load",
+            Kind::Show => "show",
+            Kind::Note => "note",
+            Kind::End => "end",
         }
+    }
+}
+
+impl fmt::Display for Kind {
+    ghost output = { λ kind. Some (word_of kind) };
+
+    fn fmt<W: fmt::Write>(&self, f: &mut fmt::Formatter<W>) -> fmt::Result {
+        f.write_str(self.word())
     }
 }

@@ -1,21 +1,25 @@
 -- The cases of rounding to the nearest: zero, few digits, and digits that are cut off with or without a carry.
-use Rattle.std.proofs.Common.{◌≡◌, ℕ, zero, suc, ◌+◌, ◌-◌, ◌*◌, ◌/◌, ◌%◌, ◌^◌, ◌<◌, ◌≤◌, Bool, false, ℤ, pos, ◌+ℤ◌, ◌-ℤ◌, sym, ap, ◌∙◌, ap₂, lt_of_lt_of_le, mod-eq_of_lt, pow-suc, le-div_iff_mul-le, arith, lit≤, pow_pos, pow_mono}
+use Rattle.std.proofs.Common.{◌≡◌, ℕ, zero, suc, ◌+◌, ◌-◌, ◌*◌, ◌/◌, ◌%◌, ◌^◌, ◌<◌, ◌≤◌, Bool, ℤ, pos, negsuc, nat_abs, ◌+ℤ◌, ◌-ℤ◌, sym, ap, ◌∙◌, ap₂, lt_of_lt_of_le, mod-eq_of_lt, pow-suc, le-div_iff_mul-le, arith, lit≤, pow_pos, pow_mono}
 use Prim.Native.Nat.{compare}
 use native.Mathlib.Decide.{dec_lt}
 use native.Mathlib.Nat.{div-eq_of_lt}
 use lib.Ieee.{size as digits}
 use lib.Ieee.Digits.{size-lt, size-le}
 use borrow.Author.Differences.{ints}
-use Rattle.exact.specs.Exact.{scaled, signed_by}
-use Rattle.exact.specs.Parts.{parts, zero_parts}
+use Rattle.exact.specs.Exact.{scaled, signed_by, is_negative}
+use Rattle.exact.specs.Parts.{parts}
 use Rattle.exact.specs.Ties.{Tie, pick, round_whole, nearest_by}
+use Rattle.exact.proofs.Signs.{signed_self}
 use Rattle.exact.proofs.Digits.{digits_full, lifted, quotient_full}
 use Rattle.exact.proofs.ByDigits.{answer_zero, answer_few, answer_cut, round_is, pick_near}
 
-pub at_zero : (tie : Tie) (p : ℕ) (b : Bool) (M : ℕ) (e : ℤ) → 0 < p → M ≡ 0 → (M ≡ 0 → b ≡ false) → parts b 0 (pos 0) ≡ nearest_by tie p (scaled (signed_by b M) e)
-at_zero tie p b M e hp z f =
-    let q : parts b 0 (pos 0) ≡ zero_parts = ap (λ (c : Bool). parts c 0 (pos 0)) (f z) in
-    q ∙ sym (answer_zero tie p e hp) ∙ (λ i. nearest_by tie p (scaled (signed_by (sym (f z) i) (sym z i)) e))
+pub at_zero : (tie : Tie) (p : ℕ) (z e : ℤ) → 0 < p → nat_abs z ≡ 0 → parts (is_negative z) 0 (pos 0) ≡ nearest_by tie p (scaled z e)
+at_zero tie p (pos n) e hp q = sym (answer_zero tie p e hp) ∙ ap (λ (k : ℕ). nearest_by tie p (scaled (pos k) e)) (sym q)
+at_zero tie p (negsuc n) e hp q = absurd (cc)
+
+-- the value of a whole number by its sign and its size
+pub by_size : (tie : Tie) (p n : ℕ) (z e : ℤ) → n ≡ nat_abs z → nearest_by tie p (scaled (signed_by (is_negative z) n) e) ≡ nearest_by tie p (scaled z e)
+by_size tie p n z e q = ap (λ (m : ℤ). nearest_by tie p (scaled m e)) (ap (signed_by (is_negative z)) q ∙ signed_self z)
 
 -- ---- M has n digits, n ≤ p
 module _ (p M n : ℕ) (hp : 0 < p) (small : p ≤ 24) (some : 0 < M) (en : n ≡ digits M) (le : n ≤ p) where

@@ -1,3 +1,4 @@
+pub mod Wholes
 pub mod Cut
 pub mod ByCases
 pub mod Sums

@@ -1,47 +1,97 @@
 -- The cases of a sum of two addends.
-use Rattle.std.proofs.Common.{◌≡◌, ℕ, ◌+◌, ◌-◌, ◌*◌, ◌%◌, ◌^◌, ◌<◌, Bool, true, false, cond, ℤ, pos, ◌+ℤ◌, ◌-ℤ◌, ◌*ℤ◌, ◌≤ℤ◌, sym, ap, ◌∙◌, subst, lt_of_lt_of_le, arith, pow_mono}
-use mathlib.Core.Bool.{beq}
-use Rattle.std.proofs.lemmas.Nat.{shl_below, shl_whole}
-use Rattle.exact.specs.Exact.{Exact, scaled, signed_by, two^, ◌≈◌, ◌⊞◌}
+use Rattle.std.proofs.Common.{◌≡◌, ℕ, zero, suc, ◌+◌, ◌-◌, ◌*◌, ◌^◌, ◌<◌, ◌≤◌, ℤ, pos, negsuc, ◌+ℤ◌, ◌-ℤ◌, ◌*ℤ◌, ◌≤ℤ◌, neg_ℤ, true, false, nat_abs, FitsSigned, to_z, of_z, sym, refl, ap, ◌∙◌, ap₂, subst, lt_of_le_of_lt, lt_of_lt_of_le, mul-lt-mul_of_pos_right, arith, zero-lt-suc, pow_pos, pow_mono, pow-add}
+use borrow.Author.Differences.{ints}
+use Rattle.std.specs.Int.{int_signum, w128}
+use Rattle.exact.specs.Exact.{Exact, scaled, two^, ◌≈◌, ◌⊞◌}
 use Rattle.exact.specs.Rounding.{RoundAlike}
-use Rattle.exact.proofs.Signs.{signed_zero, signed_mul}
+use Rattle.exact.proofs.Signs.{abs_mul}
 use Rattle.exact.proofs.Scaled.{sum_close, plus_zero}
 use Rattle.exact.proofs.Scale.{plus_comm}
 use Rattle.exact.proofs.Sums.{far_plus, far_minus, same_alike, alike_same}
-use Rattle.rounding.specs.Values.{addend_value}
-use Rattle.rounding.specs.declared.addend.Addend.{Addend}
+use Rattle.rounding.proofs.Wholes.{whole_fits, same_whole}
 
-shifted : (X a : ℕ) → X < 2 ^ 48 → a < 77 → (X * 2 ^ a) % 2 ^ 128 ≡ X * 2 ^ a
-shifted X a h l = shl_whole X 48 a 128 h (omega arith)
+-- ---- sizes
+abs_plus : (x y : ℤ) → nat_abs (x +ℤ y) ≤ nat_abs x + nat_abs y
+abs_plus x y = omega (arith, ints)
 
-pub shifted_short : (X a : ℕ) → X < 2 ^ 48 → a < 77 → (X * 2 ^ a) % 2 ^ 128 < 2 ^ 124
-shifted_short X a h l = rw (shifted X a h l) (lt_of_lt_of_le (shl_below X 48 a h) (pow_mono {i = 48 + a} {j = 124} (omega arith)))
+-- ---- x, moved up by a digits, and y, in the code's whole numbers
+module _ (x y p : ℤ) (a : ℕ) (hx : nat_abs x < 2 ^ 48) (hy : nat_abs y < 2 ^ 48) (near : a < 77) (power : p ≡ two^ a) where
+  short_power : 2 ^ a < 2 ^ 126
+  short_power = lt_of_le_of_lt (pow_mono {i = a} {j = 76} (omega arith)) (omega arith)
 
-pub close_is : (bx : Bool) (X : ℕ) (by : Bool) (Y : ℕ) (br : Bool) (r : ℕ) (ex ey e : ℤ) (a : ℕ) → X < 2 ^ 48 → a < 77 → ex ≡ ey +ℤ pos a → e ≡ ey → signed_by br r ≡ signed_by bx ((X * 2 ^ a) % 2 ^ 128) +ℤ signed_by by Y → scaled (signed_by br r) e ≈ scaled (signed_by bx X) ex ⊞ scaled (signed_by by Y) ey
-close_is bx X by Y br r ex ey e a h l places q s =
-    let n : signed_by br r ≡ signed_by bx X *ℤ two^ a +ℤ signed_by by Y = s ∙ ap (λ (z : ℤ). z +ℤ signed_by by Y) (ap (signed_by bx) (shifted X a h l) ∙ signed_mul bx X (2 ^ a)) in
-    subst (λ (z : Exact). z ≈ scaled (signed_by bx X) ex ⊞ scaled (signed_by by Y) ey) (λ i. scaled (sym n i) (sym q i)) (sum_close (signed_by bx X) (signed_by by Y) ex ey a places)
+  short_product : nat_abs (x *ℤ two^ a) < 2 ^ 124
+  short_product =
+      rw (abs_mul x (two^ a))
+      (lt_of_lt_of_le (mul-lt-mul_of_pos_right hx (pow_pos a)) (subst (λ (z : ℕ). z ≤ 2 ^ 124) (pow-add 2 48 a) (pow_mono {i = 48 + a} {j = 124} (omega arith))))
 
--- one unit for the smaller addend, outward where the signs are alike
-pub far_is : (b : Bool) (X : ℕ) (c : Bool) (Y size : ℕ) (ex ey e : ℤ) → X < 2 ^ 48 → 0 < X → Y < 2 ^ 48 → 0 < Y → (ey +ℤ pos 77) ≤ℤ ex → size ≡ cond (beq b c) ((X * 2 ^ 30) % 2 ^ 128 + 1) ((X * 2 ^ 30) % 2 ^ 128 - 1) → e ≡ ex -ℤ pos 30 → RoundAlike 24 (scaled (signed_by b size) e) (scaled (signed_by b X) ex ⊞ scaled (signed_by c Y) ey)
-far_is b X c Y size ex ey e sx hx sy hy far s f =
-    subst (λ (z : Exact). RoundAlike 24 z (scaled (signed_by b X) ex ⊞ scaled (signed_by c Y) ey)) (λ i. scaled (signed_by b (sym unit i)) (sym f i)) (by_signs b c)
-  where
-    unit : size ≡ cond (beq b c) (X * 2 ^ 30 + 1) (X * 2 ^ 30 - 1)
-    unit = s ∙ ap (λ (z : ℕ). cond (beq b c) (z + 1) (z - 1)) (shifted X 30 sx (omega arith))
+  short_sum : nat_abs (x *ℤ two^ a +ℤ y) < 2 ^ 125
+  short_sum = omega (arith, abs_plus (x *ℤ two^ a) y, short_product)
 
-    by_signs : (b c : Bool) → RoundAlike 24 (scaled (signed_by b (cond (beq b c) (X * 2 ^ 30 + 1) (X * 2 ^ 30 - 1))) (ex -ℤ pos 30)) (scaled (signed_by b X) ex ⊞ scaled (signed_by c Y) ey)
-    by_signs true true = far_plus true X Y ex ey hx hy sy far
-    by_signs true false = far_minus true X Y ex ey hx hy sy far
-    by_signs false true = far_minus false X Y ex ey hx hy sy far
-    by_signs false false = far_plus false X Y ex ey hx hy sy far
+  product_is : to_z w128 (of_z w128 x) *ℤ to_z w128 (of_z w128 p) ≡ x *ℤ two^ a
+  product_is = ap₂ ◌*ℤ◌ (same_whole x (omega arith)) (ap (λ (z : ℤ). to_z w128 (of_z w128 z)) power ∙ same_whole (two^ a) short_power)
+
+  sum_is : to_z w128 (of_z w128 (to_z w128 (of_z w128 x) *ℤ to_z w128 (of_z w128 p))) +ℤ to_z w128 (of_z w128 y) ≡ x *ℤ two^ a +ℤ y
+  sum_is = ap₂ ◌+ℤ◌ (ap (λ (z : ℤ). to_z w128 (of_z w128 z)) product_is ∙ same_whole (x *ℤ two^ a) (omega (arith, short_product))) (same_whole y (omega arith))
+
+  pub product_fits : FitsSigned w128 (to_z w128 (of_z w128 x) *ℤ to_z w128 (of_z w128 p))
+  product_fits = rw product_is (whole_fits (x *ℤ two^ a) (omega (arith, short_product)))
+
+  pub sum_fits : FitsSigned w128 (to_z w128 (of_z w128 (to_z w128 (of_z w128 x) *ℤ to_z w128 (of_z w128 p))) +ℤ to_z w128 (of_z w128 y))
+  sum_fits = rw sum_is (whole_fits (x *ℤ two^ a +ℤ y) (omega (arith, short_sum)))
+
+  pub moved : to_z w128 (of_z w128 (to_z w128 (of_z w128 (to_z w128 (of_z w128 x) *ℤ to_z w128 (of_z w128 p))) +ℤ to_z w128 (of_z w128 y))) ≡ x *ℤ two^ a +ℤ y
+  moved = ap (λ (z : ℤ). to_z w128 (of_z w128 z)) sum_is ∙ same_whole (x *ℤ two^ a +ℤ y) (omega (arith, short_sum))
+
+  pub moved_short : nat_abs (to_z w128 (of_z w128 (to_z w128 (of_z w128 (to_z w128 (of_z w128 x) *ℤ to_z w128 (of_z w128 p))) +ℤ to_z w128 (of_z w128 y)))) < 2 ^ 126
+  moved_short = rw moved (omega (arith, short_sum))
+
+pub operands_same : (x y : ℤ) (a : ℕ) → nat_abs x < 2 ^ 48 → nat_abs y < 2 ^ 48 → to_z w128 (of_z w128 x) *ℤ two^ a +ℤ to_z w128 (of_z w128 y) ≡ x *ℤ two^ a +ℤ y
+operands_same x y a hx hy = ap₂ (λ (u v : ℤ). u *ℤ two^ a +ℤ v) (same_whole x (omega arith)) (same_whole y (omega arith))
+
+pub power_fits : (a : ℕ) → a < 77 → FitsSigned w128 (pos (2 ^ a))
+power_fits a near = whole_fits (pos (2 ^ a)) (lt_of_le_of_lt (pow_mono {i = a} {j = 76} (omega arith)) (omega arith))
+
+-- ---- near each other: the sum is exact
+pub close_is : (x y r ex ey e : ℤ) (a : ℕ) → ex ≡ ey +ℤ pos a → e ≡ ey → r ≡ x *ℤ two^ a +ℤ y → scaled r e ≈ scaled x ex ⊞ scaled y ey
+close_is x y r ex ey e a places q s = subst (λ (z : Exact). z ≈ scaled x ex ⊞ scaled y ey) (λ i. scaled (sym s i) (sym q i)) (sum_close x y ex ey a places)
+
+-- ---- far from each other: one unit for the smaller addend, with its sign
+some : (n : ℕ) → (pos n ≡ pos 0 → ⊥) → 0 < n
+some zero h = absurd (h refl)
+some (suc n) h = zero-lt-suc n
+
+outward : (X Y : ℕ) → 0 < Y → pos (X * 2 ^ 30 + 1) ≡ pos X *ℤ two^ 30 +ℤ int_signum (pos Y)
+outward X Y h = omega (arith, ints)
+
+inward : (X Y : ℕ) → 0 < X → pos (X * 2 ^ 30 - 1) ≡ pos X *ℤ two^ 30 +ℤ int_signum (negsuc Y)
+inward X Y h = omega (arith, ints)
+
+inward_below : (X Y : ℕ) → 0 < Y → neg_ℤ (pos (suc X * 2 ^ 30 - 1)) ≡ negsuc X *ℤ two^ 30 +ℤ int_signum (pos Y)
+inward_below X Y h = omega (arith, ints)
+
+outward_below : (X Y : ℕ) → neg_ℤ (pos (suc X * 2 ^ 30 + 1)) ≡ negsuc X *ℤ two^ 30 +ℤ int_signum (negsuc Y)
+outward_below X Y = omega (arith, ints)
+
+module _ (ex ey : ℤ) (far : (ey +ℤ pos 77) ≤ℤ ex) where
+  alike : (x y : ℤ) → (x ≡ pos 0 → ⊥) → (y ≡ pos 0 → ⊥) → nat_abs y < 2 ^ 48 → RoundAlike 24 (scaled (x *ℤ two^ 30 +ℤ int_signum y) (ex -ℤ pos 30)) (scaled x ex ⊞ scaled y ey)
+  alike (pos X) (pos Y) hx hy short =
+      subst (λ (z : ℤ). RoundAlike 24 (scaled z (ex -ℤ pos 30)) (scaled (pos X) ex ⊞ scaled (pos Y) ey)) (outward X Y (some Y hy)) (far_plus false X Y ex ey (some X hx) (some Y hy) short far)
+  alike (pos X) (negsuc Y) hx hy short =
+      subst (λ (z : ℤ). RoundAlike 24 (scaled z (ex -ℤ pos 30)) (scaled (pos X) ex ⊞ scaled (negsuc Y) ey)) (inward X Y (some X hx)) (far_minus false X (suc Y) ex ey (some X hx) (zero-lt-suc Y) short far)
+  alike (negsuc X) (pos Y) hx hy short =
+      subst (λ (z : ℤ). RoundAlike 24 (scaled z (ex -ℤ pos 30)) (scaled (negsuc X) ex ⊞ scaled (pos Y) ey)) (inward_below X Y (some Y hy)) (far_minus true (suc X) Y ex ey (zero-lt-suc X) (some Y hy) short far)
+  alike (negsuc X) (negsuc Y) hx hy short =
+      subst (λ (z : ℤ). RoundAlike 24 (scaled z (ex -ℤ pos 30)) (scaled (negsuc X) ex ⊞ scaled (negsuc Y) ey)) (outward_below X Y) (far_plus true (suc X) (suc Y) ex ey (zero-lt-suc X) (zero-lt-suc Y) short far)
+
+  pub far_is : (x y r e : ℤ) → (x ≡ pos 0 → ⊥) → (y ≡ pos 0 → ⊥) → nat_abs y < 2 ^ 48 → r ≡ x *ℤ two^ 30 +ℤ int_signum y → e ≡ ex -ℤ pos 30 → RoundAlike 24 (scaled r e) (scaled x ex ⊞ scaled y ey)
+  far_is x y r e hx hy short s f = subst (λ (z : Exact). RoundAlike 24 z (scaled x ex ⊞ scaled y ey)) (λ i. scaled (sym s i) (sym f i)) (alike x y hx hy short)
 
 -- a zero
-pub zero_right : (r : Exact) (n ex : ℤ) (b : Bool) (Y : ℕ) (ey : ℤ) → Y ≡ 0 → r ≡ scaled n ex → RoundAlike 24 r (scaled n ex ⊞ scaled (signed_by b Y) ey)
-zero_right r n ex b Y ey z h =
-    same_alike 24 r (scaled n ex ⊞ scaled (signed_by b Y) ey)
-    (subst (λ (x : Exact). x ≈ scaled n ex ⊞ scaled (signed_by b Y) ey) (sym h) (subst (λ (k : ℤ). scaled n ex ≈ scaled n ex ⊞ scaled k ey) (sym (ap (signed_by b) z ∙ signed_zero b)) (plus_zero n ex ey)))
+pub zero_right : (r : Exact) (n ex y ey : ℤ) → y ≡ pos 0 → r ≡ scaled n ex → RoundAlike 24 r (scaled n ex ⊞ scaled y ey)
+zero_right r n ex y ey z h =
+    same_alike 24 r (scaled n ex ⊞ scaled y ey)
+    (subst (λ (x : Exact). x ≈ scaled n ex ⊞ scaled y ey) (sym h) (subst (λ (k : ℤ). scaled n ex ≈ scaled n ex ⊞ scaled k ey) (sym z) (plus_zero n ex ey)))
 
 -- the same sum in the other order
-pub other_order : (r : Exact) (x y : Addend) → RoundAlike 24 r (addend_value x ⊞ addend_value y) → RoundAlike 24 r (addend_value y ⊞ addend_value x)
-other_order r x y h = alike_same 24 r (addend_value x ⊞ addend_value y) (addend_value y ⊞ addend_value x) (plus_comm (addend_value x) (addend_value y)) h
+pub other_order : (r x y : Exact) → RoundAlike 24 r (x ⊞ y) → RoundAlike 24 r (y ⊞ x)
+other_order r x y h = alike_same 24 r (x ⊞ y) (y ⊞ x) (plus_comm x y) h

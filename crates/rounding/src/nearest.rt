@@ -2,20 +2,21 @@
 ghost use Rattle.std.specs.Prelude.{◌≡◌, suc, ◌+◌, ◌*◌, ◌/◌, ◌%◌, ◌^◌, ◌<◌, ◌≤◌, pos, negsuc, ◌+ℤ◌, ◌-ℤ◌, ◌≤ℤ◌, if◌then◌else◌};
 ghost use Prim.Native.Nat.{compare};
 ghost use Rattle.std.specs.Float.Ieee.{size as digits_of};
+ghost use Rattle.exact.specs.Exact.{is_negative};
 ghost use Rattle.exact.specs.Parts.{parts};
 ghost use Rattle.exact.specs.Ties.{pick, nearest_by};
-ghost use Rattle.rounding.specs.Values.{unrounded_value};
+ghost use Rattle.rounding.specs.Values.{exact_value};
 
+use crate::dyadic::Unrounded;
 use crate::precision::Precision;
 use crate::rule::TieBreak;
-use crate::unrounded::Unrounded;
 
 // How many binary digits n has.
 fn digits(n: u128) -> u32
     ensures defined { result ≡ digits_of n }
     ensures few { result ≤ 128 }
 {
-    128 - n.leading_zeros()
+    u128::BITS - n.leading_zeros()
 }
 
 // q or q + 1, whichever is nearer to the value between them that is q and a rest, where two halves make one whole step from q to
@@ -72,15 +73,16 @@ fn carried(p: Precision, m: u32, e: i32) -> (u32, i32)
 
 // To the nearest number of precision p, and midway by T: the significand and the exponent.
 pub(crate) fn to_nearest<T: TieBreak>(p: Precision, t: Unrounded) -> (u32, i32)
-    ensures { parts t.negative result.0 result.1 ≡ nearest_by T.TieBreak.upper p.bits (unrounded_value t) }
+    ensures { parts (is_negative t.whole) result.0 result.1 ≡ nearest_by T.TieBreak.upper p.bits (exact_value t) }
 {
-    if t.size == 0 {
+    let size = t.whole.unsigned_abs();
+    if size == 0 {
         return (0, 0);
     }
-    let n = digits(t.size);
+    let n = digits(size);
     let e = first_exponent(t.exponent, n);
     if n <= p.bits {
-        return ((t.size << (p.bits - n)) as u32, e);
+        return ((size << (p.bits - n)) as u32, e);
     }
-    carried(p, cut::<T>(t.size, n - p.bits), e)
+    carried(p, cut::<T>(size, n - p.bits), e)
 }

@@ -1,16 +1,16 @@
 // Rounding rules: what a rule is, and the rules that differ only midway between two neighbours. Three of them are
 // `Nearest<ToEven>`, `Nearest<AwayFromZero>` and `Nearest<TowardZero>`.
 ghost use Rattle.std.specs.Prelude.{◌≡◌, ℕ, ◌<◌, Bool};
-ghost use Rattle.exact.specs.Exact.{Exact};
+ghost use Rattle.exact.specs.Exact.{Exact, is_negative};
 ghost use Rattle.exact.specs.Parts.{Parts, parts};
 ghost use Rattle.exact.specs.Rounding.{Rounding};
 ghost use Rattle.exact.specs.Ties.{nearest_by, to_even, away_from_zero, toward_zero};
-ghost use Rattle.rounding.specs.Values.{unrounded_value};
+ghost use Rattle.rounding.specs.Values.{exact_value};
 ghost use Rattle.exact.proofs.Rules.{every_tie_rounds};
 
+use crate::dyadic::Unrounded;
 use crate::nearest::to_nearest;
 use crate::precision::Precision;
-use crate::unrounded::Unrounded;
 
 // A rounding rule. Its meaning is rn, over the precision and the exact value; owed is that this is a rounding to nearest that
 // depends on the value alone. It refuses nothing and changes nothing. Its free choice is which of two numbers it takes where the value
@@ -20,7 +20,7 @@ pub trait Rule {
 
     // The significand and the exponent; the sign is that of t.
     fn round(p: Precision, t: Unrounded) -> (u32, i32)
-        ensures { parts t.negative result.0 result.1 ≡ rn p.bits (unrounded_value t) };
+        ensures { parts (is_negative t.whole) result.0 result.1 ≡ rn p.bits (exact_value t) };
 
     ghost rounds: { (p : ℕ) → 0 < p → Rounding p (rn p) };
 }

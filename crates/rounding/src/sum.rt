@@ -1,92 +1,54 @@
 // Exact sums of one or two addends, as far as any rounding to at most 24 digits can tell.
-ghost use Rattle.std.specs.Prelude.{◌≡◌, ◌+◌, ◌-◌, ◌^◌, ◌<◌, false, pos, ◌+ℤ◌, ◌≤ℤ◌, if◌then◌else◌};
-ghost use Rattle.exact.specs.Exact.{◌≈◌, ◌⊞◌, ◌⊟◌, negated, signed_by};
-ghost use Rattle.exact.specs.Rounding.{RoundAlike};
-ghost use Rattle.rounding.specs.Values.{addend_value, unrounded_value};
+ghost use Rattle.std.specs.Prelude.{◌≡◌, ◌+◌, ◌^◌, ◌<◌, unsigned_abs, ◌*ℤ◌, pos, ◌+ℤ◌, ◌≤ℤ◌, ◌≢◌};
+ghost use Rattle.std.specs.Int.{int_signum};
+ghost use Rattle.exact.specs.Exact.{◌≈◌, ◌⊞◌, ◌⊟◌, negated, two^, is_negative};
+ghost use Rattle.rounding.specs.Values.{exact_value, RoundsAs};
 
-use crate::addend::Addend;
-use crate::unrounded::Unrounded;
+use crate::dyadic::{Addend, Dyadic, Unrounded};
 
-// A whole number by its sign and its size.
-#[derive(Clone, Copy)]
-struct Signed {
-    negative: bool,
-    size: u128,
+// x moved up by so many places, and y. With 48 digits each and at most 76 places, the sum has at most 125 digits.
+fn moved_sum(x: i128, places: u32, y: i128) -> i128
+    requires left { unsigned_abs x < 2 ^ 48 }
+    requires right { unsigned_abs y < 2 ^ 48 }
+    requires near { places < 77 }
+    ensures value { result ≡ x *ℤ two^ places +ℤ y }
+    ensures short { unsigned_abs result < 2 ^ 126 }
+{
+    x * 2i128.pow(places) + y
 }
 
-impl Signed {
-    // The sum of two whole numbers; zero has no sign.
-    fn plus(self, other: Signed) -> Signed
-        requires left { self.size < 2 ^ 124 }
-        requires right { other.size < 2 ^ 124 }
-        ensures value { signed_by result.negative result.size ≡ signed_by self.negative self.size +ℤ signed_by other.negative other.size }
-        ensures short { result.size < 2 ^ 125 }
-        ensures plain { result.size ≡ 0 → result.negative ≡ false }
-    {
-        if self.negative == other.negative {
-            let size = self.size + other.size;
-            Signed {
-                negative: self.negative && size > 0,
-                size,
-            }
-        } else if self.size > other.size {
-            Signed {
-                negative: self.negative,
-                size: self.size - other.size,
-            }
-        } else {
-            Signed {
-                negative: other.negative && other.size > self.size,
-                size: other.size - self.size,
-            }
-        }
-    }
+// One unit with the sign of y.
+fn unit(y: i128) -> i128
+    ensures value { result ≡ int_signum y }
+    ensures small { unsigned_abs result < 2 ^ 48 }
+{
+    y.signum()
 }
 
-// The sum of two addends on the scale of y, where x stands so many digits higher: it is exact. With 48 bits each and at most 76
-// digits apart, both have at most 124 bits there.
+// The sum of two addends on the scale of y, where x stands so many digits higher: it is exact.
 fn close(x: Addend, y: Addend, apart: u32) -> Unrounded
     requires near { apart < 77 }
     requires places { x.exponent ≡ y.exponent +ℤ pos apart }
-    ensures { unrounded_value result ≈ addend_value x ⊞ addend_value y }
+    ensures { exact_value result ≈ exact_value x ⊞ exact_value y }
 {
-    let shifted = Signed {
-        negative: x.negative,
-        size: (x.size as u128) << apart,
-    };
-    let sum = shifted.plus(Signed {
-        negative: y.negative,
-        size: y.size as u128,
-    });
     Unrounded {
-        negative: sum.negative,
-        size: sum.size,
+        whole: moved_sum(x.whole, apart, y.whole),
         exponent: y.exponent,
     }
 }
 
-// A size with one unit more or, where it points the other way, one less.
-fn with_unit(size: u128, outward: bool) -> u128
-    requires some { 0 < size }
-    requires short { size < 2 ^ 127 }
-    ensures { result ≡ (if outward then size + 1 else size - 1) }
-{
-    if outward { size + 1 } else { size - 1 }
-}
-
 // The sum, in either order, where y lies wholly below the digits of x that a rounding looks at: one unit with the sign of y stands
-// for it, 30 digits below the last one of x. With 48 bits and at least 77 digits lower, y is smaller than two such units, and x has
+// for it, 30 digits below the last one of x. With 48 digits and at least 77 digits lower, y is smaller than two such units, and x has
 // at least 31 digits above the unit, more than the 25 that tell two values with at most 24 digits and the point midway apart.
 fn far(x: Addend, y: Addend) -> Unrounded
-    requires large { 0 < x.size }
-    requires small { 0 < y.size }
+    requires large { x.whole ≢ pos 0 }
+    requires small { y.whole ≢ pos 0 }
     requires places { (y.exponent +ℤ pos 77) ≤ℤ x.exponent }
-    ensures forward { RoundAlike 24 (unrounded_value result) (addend_value x ⊞ addend_value y) }
-    ensures backward { RoundAlike 24 (unrounded_value result) (addend_value y ⊞ addend_value x) }
+    ensures forward { RoundsAs result (exact_value x ⊞ exact_value y) }
+    ensures backward { RoundsAs result (exact_value y ⊞ exact_value x) }
 {
     Unrounded {
-        negative: x.negative,
-        size: with_unit((x.size as u128) << 30, x.negative == y.negative),
+        whole: moved_sum(x.whole, 30, unit(y.whole)),
         exponent: x.exponent - 30,
     }
 }
@@ -94,50 +56,58 @@ fn far(x: Addend, y: Addend) -> Unrounded
 // The sum, in either order, where the exponent of x is not the smaller one.
 fn descending(x: Addend, y: Addend) -> Unrounded
     requires { y.exponent ≤ℤ x.exponent }
-    ensures forward { RoundAlike 24 (unrounded_value result) (addend_value x ⊞ addend_value y) }
-    ensures backward { RoundAlike 24 (unrounded_value result) (addend_value y ⊞ addend_value x) }
+    ensures forward { RoundsAs result (exact_value x ⊞ exact_value y) }
+    ensures backward { RoundsAs result (exact_value y ⊞ exact_value x) }
 {
     let apart = (x.exponent - y.exponent) as u32;
     if apart < 77 {
         close(x, y, apart)
-    } else if y.size == 0 {
-        Unrounded::alone(x)
-    } else if x.size == 0 {
-        Unrounded::alone(y)
+    } else if y.whole == 0 {
+        Unrounded::from(x)
+    } else if x.whole == 0 {
+        Unrounded::from(y)
     } else {
         far(x, y)
+    }
+}
+
+impl From<Addend> for Unrounded {
+    ghost from_gives = { λ x t. exact_value t ≡ exact_value x };
+
+    fn from(x: Addend) -> Unrounded {
+        Unrounded {
+            whole: x.whole,
+            exponent: x.exponent,
+        }
+    }
+}
+
+impl<const DIGITS: u32, const REACH: u32> Dyadic<DIGITS, REACH> {
+    // Whether the value is below zero.
+    pub fn is_negative(self) -> bool
+        ensures { result ≡ is_negative self.entry.whole }
+    {
+        self.whole < 0
     }
 }
 
 impl Addend {
     // The addend with the other sign; zero stays as it is.
     pub fn negated(self) -> Addend
-        ensures { addend_value result ≡ negated (addend_value self) }
+        ensures { exact_value result ≡ negated (exact_value self) }
     {
         Addend {
-            negative: self.size > 0 && !self.negative,
-            size: self.size,
+            whole: -self.whole,
             exponent: self.exponent,
         }
     }
 }
 
 impl Unrounded {
-    // An addend by itself.
-    pub fn alone(x: Addend) -> Unrounded
-        ensures { unrounded_value result ≡ addend_value x }
-    {
-        Unrounded {
-            negative: x.negative,
-            size: x.size as u128,
-            exponent: x.exponent,
-        }
-    }
-
     // The sum of two addends: every rounding to at most 24 digits answers the same for it as for the exact sum. Which one it is of the
     // values that are rounded like the sum is left free.
     pub fn sum(x: Addend, y: Addend) -> Unrounded
-        ensures { RoundAlike 24 (unrounded_value result) (addend_value x ⊞ addend_value y) }
+        ensures { RoundsAs result (exact_value x ⊞ exact_value y) }
     {
         if x.exponent < y.exponent {
             descending(y, x)
@@ -148,7 +118,7 @@ impl Unrounded {
 
     // The difference of two addends, likewise.
     pub fn difference(x: Addend, y: Addend) -> Unrounded
-        ensures { RoundAlike 24 (unrounded_value result) (addend_value x ⊟ addend_value y) }
+        ensures { RoundsAs result (exact_value x ⊟ exact_value y) }
     {
         Unrounded::sum(x, y.negated())
     }

@@ -1,5 +1,1 @@
-pub mod Writes
-mod Digits
-mod Fields
-mod Windows
 mod Unchanged

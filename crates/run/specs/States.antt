@@ -1,54 +1,61 @@
 -- Where making, opening and taking lead a run.
-use Rattle.std.specs.Prelude.{◌≡◌, ℕ, ◌+◌, ◌≤◌, min, true, false, cond, List, length, drop, is_err, Ok, Err, Result, nat_lt}
+use Rattle.std.specs.Prelude.{◌≡◌, ℕ, ◌+◌, true, false, cond, List, length, drop, is_err, Ok, Err, Result, nat_lt}
 use Rattle.std.specs.Borrow.{Bor}
 use Rattle.arith.specs.Sequence.{and_then}
 use Rattle.arith.specs.declared.format.Format.{Format}
 use Rattle.bank.specs.Slots.{Slot}
 use Rattle.records.specs.Asked.{opening}
-use Rattle.records.specs.Frames.{Framed, frame, front}
+use Rattle.records.specs.Frames.{Framed, contents, front}
 use Rattle.records.specs.declared.codes.Codes.{Codes}
 use Rattle.records.specs.declared.fault.RecordFault.{RecordFault}
+use Rattle.records.specs.declared.frame.Frame.{Frame}
 use Rattle.run.specs.Lines.{open_line, refusal_line}
 use Rattle.run.specs.Text.{Wrote}
 use Rattle.run.specs.Turns.{line_of, places_of, ends_of, bytes_of}
 use Rattle.run.specs.declared.refusal.Refusal.{Refusal}
 use Rattle.run.specs.declared.refusal.Refusal.TheVariants.{TapeTooLong, BufferTooShort, Record}
+use Rattle.run.specs.declared.states.AfterRecord.{AfterRecord}
+use Rattle.run.specs.declared.states.AfterRecord.TheVariants.{Running, Ended}
 use Rattle.run.specs.declared.states.EndedRun.{EndedRun}
 use Rattle.run.specs.declared.states.FreshRun.{FreshRun}
+use Rattle.run.specs.declared.states.NoRoom.{NoRoom}
 use Rattle.run.specs.declared.states.OpenedRun.{OpenedRun}
-use Rattle.run.specs.declared.states.Opening.{Opening}
-use Rattle.run.specs.declared.states.Opening.TheVariants as opens
-use Rattle.run.specs.declared.states.Taking.{Taking}
-use Rattle.run.specs.declared.states.Taking.TheVariants as takes
 use Rattle.run.specs.declared.states.Window.{Window}
-use Rattle.run.specs.declared.take.Beginning.{Beginning}
-use Rattle.run.specs.declared.take.Located.{Located}
 
 -- ---- making a run
 -- a tape has at most 65,536 bytes
 abbrev pub short_tape : ℕ → Result (Unit {0}) Refusal
 short_tape n = cond (nat_lt 65536 n) (Err TapeTooLong) (Ok tt)
 
--- a new run stands at the front of the tape that it was lent
+-- a new run has the tape that it was lent
 pub record Starts (tape : Bor (List ℕ)) (run : FreshRun) : Type 0 where
   pub short : short_tape (length tape.now) ≡ Ok tt
-  pub lent : run.window.tape ≡ tape
-  pub at : run.window.at ≡ 0
-  pub number : run.window.number ≡ 0
+  pub lent : run.tape ≡ tape
 
--- ---- what a run sees
+-- ---- what an opened run sees
 -- the bytes from the place reached on
 abbrev pub left : Window → List ℕ
 left w = drop w.at w.tape.now
+
+-- the record at the front of them, as the code takes it with the window behind it
+abbrev pub taken_from : Result (Frame × Window) RecordFault → Result Framed RecordFault
+taken_from (Ok r) = Ok (contents r.0)
+taken_from (Err e) = Err e
+
+-- the window behind that record, with its number
+pub record IsBehind (w behind : Window) : Type 0 where
+  pub lent : behind.tape ≡ w.tape
+  pub at : behind.at ≡ w.at + bytes_of (front (left w))
+  pub number : behind.number ≡ w.number + 1
 
 -- a line buffer has at least 96 bytes
 abbrev pub room_for : ℕ → Result (Unit {0}) Refusal
 room_for n = cond (nat_lt n 96) (Err BufferTooShort) (Ok tt)
 
 -- nothing was read, and the buffer is untouched
-pub record Untouched {Run : Type 0} (run same : Run) (refusal : Refusal) (before after : List ℕ) : Type 0 where
-  pub no_room : room_for (length before) ≡ Err refusal
-  pub run_stays : same ≡ run
+pub record Untouched {Run : Type 0} (run : Run) (stays : NoRoom Run) (before after : List ℕ) : Type 0 where
+  pub no_room : room_for (length before) ≡ Err stays.refusal
+  pub run_stays : stays.run ≡ run
   pub buffer_stays : after ≡ before
 
 -- ---- opening a run by its first record
@@ -61,66 +68,65 @@ abbrev pub first_line : Result Codes RecordFault → List ℕ
 first_line (Ok c) = open_line 1 c
 first_line (Err e) = refusal_line 1 (Record e)
 
--- the first record's line stands in the buffer, and bytes behind it stay
-pub record OpeningLine (run : FreshRun) (before after : List ℕ) (n : ℕ) : Type 0 where
-  pub room : room_for (length before) ≡ Ok tt
-  pub line : Wrote before after 0 n (first_line (first (left run.window)))
-
 -- the run goes on behind the first record, with its codes
 pub record Opened (run : FreshRun) (o : OpenedRun) : Type 0 where
-  pub codes : first (left run.window) ≡ Ok o.codes
-  pub lent : o.window.tape ≡ run.window.tape
-  pub at : o.window.at ≡ run.window.at + bytes_of (front (left run.window))
-  pub within : o.window.at ≤ length o.window.tape.now
+  pub codes : first run.tape.now ≡ Ok o.codes
+  pub lent : o.window.tape ≡ run.tape
+  pub at : o.window.at ≡ bytes_of (front run.tape.now)
   pub number : o.window.number ≡ 1
 
 -- the first record is refused
 pub record NotOpened (run : FreshRun) (e : EndedRun) : Type 0 where
-  pub refused : is_err (first (left run.window)) ≡ true
+  pub refused : is_err (first run.tape.now) ≡ true
   pub records : e.records ≡ 1
 
--- where opening leads the run, with what the buffer holds before and after
-abbrev pub Opens : FreshRun → List ℕ → List ℕ → Opening → Type 0
-Opens run before after (opens.Opened o n) = Opened run o × OpeningLine run before after n
-Opens run before after (opens.Ended e n) = NotOpened run e × OpeningLine run before after n
-Opens run before after (opens.NoRoom same refusal) = Untouched run same refusal before after
+-- where opening leads the run
+abbrev pub OpensTo : FreshRun → AfterRecord → Type 0
+OpensTo run (Running o) = Opened run o
+OpensTo run (Ended e) = NotOpened run e
+
+-- the first record's line stands in the buffer, and bytes behind it stay
+pub record OpeningLine (run : FreshRun) (before after : List ℕ) (n : ℕ) : Type 0 where
+  pub room : room_for (length before) ≡ Ok tt
+  pub line : Wrote before after n (first_line (first run.tape.now))
+
+-- both, with what the buffer holds before and after; or there is no room for the line
+abbrev pub Opens : FreshRun → List ℕ → List ℕ → Result (AfterRecord × ℕ) (NoRoom FreshRun) → Type 0
+Opens run before after (Ok r) = OpensTo run r.0 × OpeningLine run before after r.1
+Opens run before after (Err e) = Untouched run e before after
 
 -- ---- taking a record, with a bank of the format f whose places hold ps before and qs after
--- the number of the next record; the largest number stays
+-- the number of the next record
 abbrev pub next_number : OpenedRun → ℕ
-next_number run = min (run.window.number + 1) 4294967295
+next_number run = run.window.number + 1
 
--- the record's line stands in the buffer, bytes behind it stay, and the places are those after the record
-pub record Taken (f : Format) (run : OpenedRun) (ps qs : List Slot) (before after : List ℕ) (n : ℕ) : Type 0 where
-  pub room : room_for (length before) ≡ Ok tt
-  pub line : Wrote before after 0 n (line_of f ps (next_number run) (front (left run.window)))
-  pub places : qs ≡ places_of f ps (front (left run.window))
+-- the next record, or the refusal of a missing part
+abbrev pub next_record : OpenedRun → Result Framed RecordFault
+next_record run = front (left run.window)
 
 -- the run goes on behind the record
 pub record GoesOn (f : Format) (run : OpenedRun) (ps : List Slot) (next : OpenedRun) : Type 0 where
-  pub goes : ends_of f ps (front (left run.window)) ≡ false
-  pub lent : next.window.tape ≡ run.window.tape
-  pub at : next.window.at ≡ run.window.at + bytes_of (front (left run.window))
-  pub within : next.window.at ≤ length next.window.tape.now
-  pub number : next.window.number ≡ next_number run
+  pub goes : ends_of f ps (next_record run) ≡ false
+  pub behind : IsBehind run.window next.window
   pub codes : next.codes ≡ run.codes
 
 -- the run ends with the record
 pub record Ends (f : Format) (run : OpenedRun) (ps : List Slot) (e : EndedRun) : Type 0 where
-  pub ends : ends_of f ps (front (left run.window)) ≡ true
+  pub ends : ends_of f ps (next_record run) ≡ true
   pub records : e.records ≡ next_number run
 
--- where taking a record leads the run, with the places and what the buffer holds before and after
-abbrev pub Takes : Format → OpenedRun → List Slot → List Slot → List ℕ → List ℕ → Taking → Type 0
-Takes f run ps qs before after (takes.Running next n) = GoesOn f run ps next × Taken f run ps qs before after n
-Takes f run ps qs before after (takes.Ended e n) = Ends f run ps e × Taken f run ps qs before after n
-Takes f run ps qs before after (takes.NoRoom same refusal) = Untouched run same refusal before after × (qs ≡ ps)
+-- where taking a record leads the run
+abbrev pub LeadsTo : Format → OpenedRun → List Slot → AfterRecord → Type 0
+LeadsTo f run ps (Running next) = GoesOn f run ps next
+LeadsTo f run ps (Ended e) = Ends f run ps e
 
--- ---- what the code's answers stand for
-abbrev pub located : Result Located RecordFault → Result Framed RecordFault
-located (Ok l) = Ok (frame l.frame.kind l.frame.payload.now)
-located (Err e) = Err e
+-- the record's line stands in the buffer, bytes behind it stay, and the places are those after the record
+pub record Taken (f : Format) (run : OpenedRun) (ps qs : List Slot) (before after : List ℕ) (n : ℕ) : Type 0 where
+  pub room : room_for (length before) ≡ Ok tt
+  pub line : Wrote before after n (line_of f ps (next_number run) (next_record run))
+  pub places : qs ≡ places_of f ps (next_record run)
 
-abbrev pub begun : Result Beginning RecordFault → Result Codes RecordFault
-begun (Ok b) = Ok b.codes
-begun (Err e) = Err e
+-- both, with the places and what the buffer holds before and after; or there is no room for the line
+abbrev pub Takes : Format → OpenedRun → List Slot → List Slot → List ℕ → List ℕ → Result (AfterRecord × ℕ) (NoRoom OpenedRun) → Type 0
+Takes f run ps qs before after (Ok r) = LeadsTo f run ps r.0 × Taken f run ps qs before after r.1
+Takes f run ps qs before after (Err e) = Untouched run e before after × (qs ≡ ps)

@@ -1,11 +1,11 @@
--- What is written into a lent buffer.
-use Rattle.std.specs.Prelude.{◌≡◌, ℕ, zero, suc, ◌+◌, ◌/◌, ◌%◌, ◌≤◌, cond, List, [], ◌∷◌, ◌++◌, length, take, drop, nat_lt}
+-- What is written into a lent buffer, and how numbers are written in hexadecimal.
+use Rattle.std.specs.Prelude.{◌≡◌, ℕ, zero, suc, ◌+◌, ◌/◌, ◌%◌, ◌≤◌, cond, List, [], ◌∷◌, ◌++◌, length, drop, nat_lt}
 
--- the text stands in the buffer from one place to another, and every other byte is as it was
-pub record Wrote (before after : List ℕ) (from to : ℕ) (text : List ℕ) : Type 0 where
-  pub end : to ≡ from + length text
-  pub room : to ≤ length before
-  pub bytes : after ≡ take from before ++ (text ++ drop to before)
+-- the text stands at the front of the buffer, where it takes so many bytes, and every other byte is as it was
+pub record Wrote (before after : List ℕ) (n : ℕ) (text : List ℕ) : Type 0 where
+  pub end : n ≡ length text
+  pub room : n ≤ length before
+  pub bytes : after ≡ text ++ drop n before
 
 -- a hexadecimal digit, with capital letters: 48 is the code of 0, and 65 that of A
 abbrev pub hex_digit : ℕ → ℕ

@@ -1,13 +1,14 @@
-// The run over a tape: its states, the records that it takes, and the line that each record gives in a lent buffer.
+// The run over a tape: its states, the records that it takes, and the line that each record gives.
 // Read states.rt and take.rt, beside specs/Lines.antt, which has the lines, and specs/States.antt, which says where each call leads.
 #![tactic(auto)]
 
+mod line;
 mod lines;
 mod refusal;
 mod reply;
 mod states;
 mod take;
-mod text;
 
+pub use line::Line;
 pub use refusal::{Refusal, Refused};
-pub use states::{EndedRun, FreshRun, OpenedRun, Opening, Taking};
+pub use states::{AfterRecord, EndedRun, FreshRun, NoRoom, OpenedRun};

@@ -1,157 +1,102 @@
-// The lines, written into a lent buffer of at least 96 bytes.
-ghost use Rattle.std.specs.Prelude.{◌≡◌, ◌+◌, ◌≤◌, length, Ok, Err, decimal, MatchResult};
-ghost use Rattle.arith.specs.Format.{format_of};
-ghost use Rattle.run.specs.Lines.{start, field, text_field, open_line, done_line, refusal_line, loaded_at, shown_at, noted, ended, pattern_digits, done_by, ShortText};
+// The lines of records: of an accepted one, of the opening one, and of a refused one.
+ghost use Rattle.std.specs.Prelude.{◌≡◌, ◌+◌, ◌≤◌, ◌++◌, length, Ok, Err, MatchResult};
+ghost use Rattle.run.specs.Lines.{open_line, done_line, done_word, done_fields, refusal_line, done_by};
 ghost use Rattle.run.specs.States.{room_for};
-ghost use Rattle.run.specs.Text.{Wrote, hexadecimal};
+ghost use Rattle.run.specs.Text.{Wrote};
 
+use crate::line::Line;
 use crate::refusal::{Refusal, Refused};
 use crate::reply::Reply;
-use crate::text::{put_byte, put_bytes, put_decimal, put_hexadecimal};
-use arith::Format;
-use bank::Shown;
+use crate::states::NoRoom;
+use arith::NamedFormat;
 use records::{Codes, Kind};
 
-// Whether a line buffer has at least 96 bytes.
-pub(crate) fn has_room(line: &[u8]) -> Result<(), Refusal>
-    ensures { result ≡ room_for (length line.now) }
+// Gives back what it is handed, if a line buffer has at least 96 bytes.
+pub(crate) fn with_room<Run>(run: Run, buffer: &[u8]) -> Result<Run, NoRoom<Run>>
+    ensures { MatchResult result
+        (λ same. (room_for (length buffer.now) ≡ Ok tt) × (same ≡ run))
+        (λ e. (room_for (length buffer.now) ≡ Err e.refusal) × (e.run ≡ run)) }
 {
-    if line.len() < 96 {
-        return Err(Refusal::BufferTooShort);
+    if buffer.len() < 96 {
+        let refusal = Refusal::BufferTooShort;
+        return Err(NoRoom { run, refusal });
     }
-    Ok(())
+    Ok(run)
 }
 
-// The record's number and a word.
-fn put_start(line: &mut [u8], number: u32, word: &[u8]) -> usize
-    requires room { 96 ≤ length line.old }
-    requires short { length word.now ≤ 4 }
-    ensures wrote { Wrote line.old line.new 0 result (start number word.now) }
-    ensures bound { result ≤ 15 }
+// The line of the opening record.
+pub(crate) fn open_line(number: u32, codes: Codes) -> Line
+    ensures { result ≡ open_line number codes }
 {
-    let at = put_decimal(line, 0, number);
-    let at = put_byte(line, at, b' ');
-    put_bytes(line, at, word)
+    let mut line = Line::start(number, Kind::Open.word());
+    line.push_number(u8::from(codes.format).into());
+    line.push_number(u8::from(codes.method).into());
+    line.end();
+    line
 }
 
-// A number with a space in front.
-fn put_number(line: &mut [u8], at: usize, n: u32) -> usize
-    requires { at + 11 ≤ length line.old }
-    ensures wrote { Wrote line.old line.new at result (field (decimal n)) }
-    ensures bound { result ≤ at + 11 }
-{
-    let at = put_byte(line, at, b' ');
-    put_decimal(line, at, n)
-}
-
-// A pattern of the format with the code C, with a space in front.
-fn put_pattern<const C: u8>(line: &mut [u8], at: usize, pattern: u32) -> usize
-    requires { at + 9 ≤ length line.old }
-    ensures wrote { Wrote line.old line.new at result (field (hexadecimal (pattern_digits (format_of C)) pattern)) }
-    ensures bound { result ≤ at + 9 }
-{
-    let at = put_byte(line, at, b' ');
-    put_hexadecimal(line, at, Format::of_code(C).width as usize / 4, pattern)
-}
-
-// A text with a space in front, or nothing where there is no text.
-fn put_text(line: &mut [u8], at: usize, text: &[u8]) -> usize
-    requires room { at + 65 ≤ length line.old }
-    requires short { length text.now ≤ 64 }
-    ensures wrote { Wrote line.old line.new at result (text_field text.now) }
-    ensures bound { result ≤ at + 65 }
-{
-    if text.is_empty() {
-        return at;
+impl Reply<'_> {
+    fn word(self) -> &'static str
+        ensures word { result.now ≡ done_word (done_by self.entry) }
+        ensures short { length result.now ≤ 4 }
+    {
+        match self {
+            Reply::Loaded { .. } => Kind::Load.word(),
+            Reply::Shown { .. } => Kind::Show.word(),
+            Reply::Noted { .. } => Kind::Note.word(),
+            Reply::Ended => Kind::End.word(),
+        }
     }
-    let at = put_byte(line, at, b' ');
-    put_bytes(line, at, text)
-}
 
-// The lines of accepted records behind the opening one, each with its length.
-fn put_load<const C: u8>(line: &mut [u8], number: u32, place: u8) -> usize
-    requires { 96 ≤ length line.old }
-    ensures { Wrote line.old line.new 0 result (done_line (format_of C) number (loaded_at place)) }
-{
-    let at = put_start(line, number, Kind::Load.word());
-    let at = put_number(line, at, place as u32);
-    put_byte(line, at, b'\n')
-}
-
-fn put_show<const C: u8>(line: &mut [u8], number: u32, place: u8, shown: Shown) -> usize
-    requires { 96 ≤ length line.old }
-    ensures { Wrote line.old line.new 0 result (done_line (format_of C) number (shown_at place shown)) }
-{
-    let at = put_start(line, number, Kind::Show.word());
-    let at = put_number(line, at, place as u32);
-    let at = put_pattern::<C>(line, at, shown.re);
-    let at = put_pattern::<C>(line, at, shown.im);
-    let at = put_number(line, at, shown.depth as u32);
-    put_byte(line, at, b'\n')
-}
-
-fn put_note<const C: u8>(line: &mut [u8], number: u32, text: &[u8]) -> usize
-    requires room { 96 ≤ length line.old }
-    requires short { length text.now ≤ 64 }
-    ensures { Wrote line.old line.new 0 result (done_line (format_of C) number (noted text.now)) }
-{
-    let at = put_start(line, number, Kind::Note.word());
-    let at = put_text(line, at, text);
-    put_byte(line, at, b'\n')
-}
-
-fn put_end<const C: u8>(line: &mut [u8], number: u32) -> usize
-    requires { 96 ≤ length line.old }
-    ensures { Wrote line.old line.new 0 result (done_line (format_of C) number ended) }
-{
-    let at = put_start(line, number, Kind::End.word());
-    put_byte(line, at, b'\n')
-}
-
-// The line of an accepted record behind the opening one; its length.
-pub(crate) fn put_reply<const C: u8>(line: &mut [u8], number: u32, reply: Reply<'_>) -> usize
-    requires room { 96 ≤ length line.old }
-    requires short { ShortText reply }
-    ensures { Wrote line.old line.new 0 result (done_line (format_of C) number (done_by reply.entry)) }
-{
-    match reply {
-        Reply::Loaded { place } => put_load::<C>(line, number, place),
-        Reply::Shown { place, shown } => put_show::<C>(line, number, place, shown),
-        Reply::Noted { text } => put_note::<C>(line, number, text),
-        Reply::Ended => put_end::<C>(line, number),
+    // Puts the fields of an accepted record behind the opening one into its line.
+    fn push_fields<F: NamedFormat>(self, line: &mut Line)
+        requires { length line.old ≤ 15 }
+        ensures text { line.new ≡ line.old ++ done_fields F.format (done_by self.entry) }
+        ensures short { length line.new ≤ 80 }
+    {
+        match self {
+            Reply::Loaded { place } => line.push_number(place.into()),
+            Reply::Shown { place, shown } => {
+                line.push_number(place.into());
+                line.push_pattern::<F>(shown.re);
+                line.push_pattern::<F>(shown.im);
+                line.push_number(shown.depth.into());
+            }
+            Reply::Noted { text } => line.push_text(text),
+            Reply::Ended => {}
+        }
     }
-}
 
-// The line of the opening record; its length.
-pub(crate) fn put_open(line: &mut [u8], number: u32, codes: Codes) -> usize
-    requires { 96 ≤ length line.old }
-    ensures { Wrote line.old line.new 0 result (open_line number codes) }
-{
-    let at = put_start(line, number, Kind::Open.word());
-    let at = put_number(line, at, codes.format.code() as u32);
-    let at = put_number(line, at, codes.method.code() as u32);
-    put_byte(line, at, b'\n')
-}
-
-// The line of a refused record; its length.
-pub(crate) fn put_refusal(line: &mut [u8], refused: Refused) -> usize
-    requires { 96 ≤ length line.old }
-    ensures { Wrote line.old line.new 0 result (refusal_line refused.number refused.refusal) }
-{
-    let at = put_start(line, refused.number, b"no");
-    let at = put_number(line, at, refused.refusal.number() as u32);
-    let at = put_number(line, at, 0);
-    put_byte(line, at, b'\n')
+    // The line of an accepted record behind the opening one.
+    pub(crate) fn line<F: NamedFormat>(self, number: u32) -> Line
+        ensures { result ≡ done_line F.format number (done_by self.entry) }
+    {
+        let mut line = Line::start(number, self.word());
+        self.push_fields::<F>(&mut line);
+        line.end();
+        line
+    }
 }
 
 impl Refused {
-    // Writes the line of the refusal; its length, or why there is no room for it.
-    pub fn write(self, line: &mut [u8]) -> Result<usize, Refusal>
-        ensures { MatchResult result
-            (λ n. (room_for (length line.old) ≡ Ok tt) × Wrote line.old line.new 0 n (refusal_line self.number self.refusal))
-            (λ e. (room_for (length line.old) ≡ Err e) × (line.new ≡ line.old)) }
+    // The line of the refused record.
+    pub fn line(self) -> Line
+        ensures { result ≡ refusal_line self.number self.refusal }
     {
-        has_room(line)?;
-        Ok(put_refusal(line, self))
+        let mut line = Line::start(self.number, "no");
+        line.push_number(self.refusal.number().into());
+        line.push_number(0);
+        line.end();
+        line
+    }
+
+    // Writes the line of the refusal; its length, or why there is no room for it.
+    pub fn write(self, buffer: &mut [u8]) -> Result<usize, Refusal>
+        ensures { MatchResult result
+            (λ n. (room_for (length buffer.old) ≡ Ok tt) × Wrote buffer.old buffer.new n (refusal_line self.number self.refusal))
+            (λ e. (room_for (length buffer.old) ≡ Err e) × (buffer.new ≡ buffer.old)) }
+    {
+        let refused = with_room(self, buffer).map_err(|e| e.refusal)?;
+        Ok(refused.line().write(buffer))
     }
 }

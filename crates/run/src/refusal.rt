@@ -6,7 +6,7 @@ ghost use Rattle.run.specs.declared.refusal.Refusal.TheVariants.{Record, Bank};
 use bank::Fault;
 use records::RecordFault;
 
-#[derive(Clone, Copy)]
+#[derive(Clone, Copy, Debug, PartialEq, Eq)]
 pub enum Refusal {
     // the tape has more than 65,536 bytes
     TapeTooLong,
@@ -16,6 +16,7 @@ pub enum Refusal {
     Bank(Fault),
 }
 
+// The conversions are no derives, since a derived one does not promise which refusal it gives.
 impl From<RecordFault> for Refusal {
     ghost from_gives = { λ e r. r ≡ Record e };
 
@@ -33,7 +34,7 @@ impl From<Fault> for Refusal {
 }
 
 impl Refusal {
-    // The number that the refusal is known by.
+    // The number that the refusal is known by. An enum with fields has no discriminants that could be it.
     pub fn number(self) -> u8
         ensures { result ≡ number_of self }
     {
@@ -47,7 +48,7 @@ impl Refusal {
 }
 
 // A refusal, and the number of the record that is refused.
-#[derive(Clone, Copy)]
+#[derive(Clone, Copy, Debug, PartialEq, Eq)]
 pub struct Refused {
     pub number: u32,
     pub refusal: Refusal,

@@ -4,12 +4,13 @@ ghost use Rattle.run.specs.Lines.{done_by};
 ghost use Rattle.run.specs.Turns.{is_end};
 
 use bank::Shown;
+use records::NoteText;
 
 #[derive(Clone, Copy)]
 pub enum Reply<'a> {
     Loaded { place: u8 },
     Shown { place: u8, shown: Shown },
-    Noted { text: &'a [u8] },
+    Noted { text: NoteText<'a> },
     Ended,
 }
 
@@ -17,9 +18,6 @@ impl Reply<'_> {
     pub(crate) fn is_end(self) -> bool
         ensures { result ≡ is_end (done_by self.entry) }
     {
-        match self {
-            Reply::Loaded { .. } | Reply::Shown { .. } | Reply::Noted { .. } => false,
-            Reply::Ended => true,
-        }
+        matches!(self, Reply::Ended)
     }
 }

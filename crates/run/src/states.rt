@@ -1,4 +1,6 @@
 // The states of a run. Each call moves a run from one state into the next, so that no state can be used twice.
+ghost use Rattle.std.specs.Prelude.{◌≤◌, length};
+
 use crate::refusal::Refusal;
 use records::Codes;
 
@@ -8,12 +10,16 @@ pub struct Window<'a> {
     pub(crate) tape: &'a [u8],
     pub(crate) at: usize,
     pub(crate) number: u32,
+    ghost short: { length tape.now ≤ 65536 },
+    ghost within: { at ≤ length tape.now },
+    ghost counted: { number ≤ at },
 }
 
-// No record was read yet.
+// No record was read yet from the tape, as it was lent.
 #[derive(Drop)]
 pub struct FreshRun<'a> {
-    pub(crate) window: Window<'a>,
+    pub(crate) tape: &'a [u8],
+    ghost short: { length tape.now ≤ 65536 },
 }
 
 // The opening record was accepted, with these codes.
@@ -29,27 +35,16 @@ pub struct EndedRun {
     pub(crate) records: u32,
 }
 
-// Where opening a run leads, and the length of its line. Without room for a line the run stays fresh.
+// Where a record leads a run.
 #[derive(Drop)]
-pub enum Opening<'a> {
-    Opened { run: OpenedRun<'a>, line: usize },
-    Ended { run: EndedRun, line: usize },
-    NoRoom { run: FreshRun<'a>, refusal: Refusal },
+pub enum AfterRecord<'a> {
+    Running(OpenedRun<'a>),
+    Ended(EndedRun),
 }
 
-// Where taking a record leads, and the length of its line. Without room for a line the run stays as it was.
+// There is no room for a line, so nothing was read: the run as it was, and the refusal.
 #[derive(Drop)]
-pub enum Taking<'a> {
-    Running {
-        run: OpenedRun<'a>,
-        line: usize,
-    },
-    Ended {
-        run: EndedRun,
-        line: usize,
-    },
-    NoRoom {
-        run: OpenedRun<'a>,
-        refusal: Refusal,
-    },
+pub struct NoRoom<Run> {
+    pub run: Run,
+    pub refusal: Refusal,
 }

@@ -1,39 +1,28 @@
 // Making a run, opening it by its first record, and taking one record after another.
-ghost use Rattle.std.specs.Prelude.{◌≡◌, ◌+◌, ◌-◌, ◌≤◌, true, length, drop, is_err, IfOk, Err, MatchResult};
-ghost use Rattle.arith.specs.Format.{format_of};
+ghost use Rattle.std.specs.Prelude.{◌≡◌, ◌+◌, ◌≤◌, true, length, is_err, IfOk, Err, MatchResult};
 ghost use Rattle.bank.specs.Views.{holds};
-ghost use Rattle.records.specs.Asked.{little_endian, asked, asked_for, Fits};
-ghost use Rattle.records.specs.Frames.{frame, front};
-ghost use Rattle.run.specs.Lines.{ShortText};
-ghost use Rattle.run.specs.Text.{Wrote};
-ghost use Rattle.run.specs.Turns.{obeyed, places_by, replied, answered, places_if, outcome, line_by, accepted_end, bytes_of};
-ghost use Rattle.run.specs.States.{left, short_tape, Starts, Opens, Takes, first, located, begun};
+ghost use Rattle.records.specs.Asked.{asked, asked_for};
+ghost use Rattle.records.specs.Frames.{contents, front};
+ghost use Rattle.run.specs.Turns.{obeyed, places_by, replied, answered, places_if, outcome, line_of, places_of};
+ghost use Rattle.run.specs.States.{left, short_tape, Starts, Opened, OpensTo, Opens, LeadsTo, Takes, first, first_line, next_number, next_record, taken_from, IsBehind};
 
-use crate::lines::{has_room, put_open, put_refusal, put_reply};
+use crate::line::Line;
+use crate::lines::{open_line, with_room};
 use crate::refusal::{Refusal, Refused};
 use crate::reply::Reply;
-use crate::states::{EndedRun, FreshRun, OpenedRun, Opening, Taking, Window};
+use crate::states::{AfterRecord, EndedRun, FreshRun, NoRoom, OpenedRun, Window};
+use arith::NamedFormat;
 use bank::Bank;
 use records::{Codes, Frame, Record, RecordFault};
 
-// A pattern of at most four bytes.
-fn pattern(bytes: &[u8]) -> u32
-    requires { length bytes.now ≤ 4 }
-    ensures { result ≡ little_endian bytes.now }
-{
-    records::little_endian(bytes)
-}
-
 // What the bank makes of a record.
-fn obey<'a, const C: u8>(bank: &mut Bank<C>, asks: Record<'a>) -> Result<Reply<'a>, Refusal>
-    requires { Fits asks }
-    ensures answer { replied result ≡ obeyed (format_of C) (holds bank.old) (asked_for asks.entry) }
-    ensures places { holds bank.new ≡ places_by (format_of C) (holds bank.old) (asked_for asks.entry) }
-    ensures short { IfOk result ShortText }
+fn obey<'a, F: NamedFormat>(bank: &mut Bank<F>, asks: Record<'a>) -> Result<Reply<'a>, Refusal>
+    ensures answer { replied result ≡ obeyed F.format (holds bank.old) (asked_for asks.entry) }
+    ensures places { holds bank.new ≡ places_by F.format (holds bank.old) (asked_for asks.entry) }
 {
     match asks {
         Record::Load { place, re, im } => {
-            bank.load(place, pattern(re), pattern(im))?;
+            bank.load(place, re.number(), im.number())?;
             Ok(Reply::Loaded { place })
         }
         Record::Show { place } => {
@@ -46,87 +35,35 @@ fn obey<'a, const C: u8>(bank: &mut Bank<C>, asks: Record<'a>) -> Result<Reply<'
 }
 
 // The answer to a whole record.
-fn answer<'a, const C: u8>(bank: &mut Bank<C>, whole: Frame<'a>) -> Result<Reply<'a>, Refusal>
-    ensures answer { replied result ≡ answered (format_of C) (holds bank.old) (asked (format_of C) (frame whole.entry.kind whole.entry.payload.now)) }
-    ensures places { holds bank.new ≡ places_if (format_of C) (holds bank.old) (asked (format_of C) (frame whole.entry.kind whole.entry.payload.now)) }
-    ensures short { IfOk result ShortText }
+fn answer<'a, F: NamedFormat>(bank: &mut Bank<F>, whole: Frame<'a>) -> Result<Reply<'a>, Refusal>
+    ensures answer { replied result ≡ answered F.format (holds bank.old) (asked F.format (contents whole.entry)) }
+    ensures places { holds bank.new ≡ places_if F.format (holds bank.old) (asked F.format (contents whole.entry)) }
 {
-    let record = records::read_record::<C>(whole)?;
+    let record = records::read_record::<F>(whole)?;
     obey(bank, record)
 }
 
-// How long the line of a record is, and whether the run ends with it.
-#[derive(Clone, Copy)]
-struct Answered {
-    line: usize,
-    ends: bool,
-}
-
-// Answers a whole record by a line.
-fn respond<const C: u8>(
-    bank: &mut Bank<C>,
-    number: u32,
-    whole: Frame<'_>,
-    line: &mut [u8],
-) -> Answered
-    requires { 96 ≤ length line.old }
-    ensures line { Wrote line.old line.new 0 result.line (line_by (format_of C) number (answered (format_of C) (holds bank.old) (asked (format_of C) (frame whole.entry.kind whole.entry.payload.now)))) }
-    ensures places { holds bank.new ≡ places_if (format_of C) (holds bank.old) (asked (format_of C) (frame whole.entry.kind whole.entry.payload.now)) }
-    ensures ends { result.ends ≡ accepted_end (answered (format_of C) (holds bank.old) (asked (format_of C) (frame whole.entry.kind whole.entry.payload.now))) }
-{
-    match answer(bank, whole) {
-        Ok(reply) => Answered {
-            line: put_reply::<C>(line, number, reply),
-            ends: reply.is_end(),
-        },
-        Err(refusal) => Answered {
-            line: put_refusal(line, Refused { number, refusal }),
-            ends: false,
-        },
+impl<'a> Window<'a> {
+    // The bytes from the place reached on.
+    fn left(&self) -> &'a [u8]
+        ensures { result.now ≡ left self.now }
+    {
+        &self.tape[self.at..]
     }
-}
 
-// The bytes from a place on; none behind the end.
-fn bytes_left<'a>(tape: &'a [u8], at: usize) -> &'a [u8]
-    ensures bytes { result.now ≡ drop at tape.now }
-    ensures long { length result.now ≡ length tape.now - at }
-{
-    let at = at.min(tape.len());
-    &tape[at..]
-}
-
-// A whole record, and the place behind it.
-#[derive(Clone, Copy)]
-struct Located<'a> {
-    frame: Frame<'a>,
-    behind: usize,
-}
-
-// The record at a place of the tape.
-fn record_at<'a>(tape: &'a [u8], at: usize) -> Result<Located<'a>, RecordFault>
-    ensures front { located result ≡ front (drop at tape.now) }
-    ensures behind { IfOk result (λ l. (l.behind ≡ at + bytes_of (front (drop at tape.now))) × (l.behind ≤ length tape.now)) }
-{
-    let frame = Frame::first(bytes_left(tape, at))?;
-    let behind = at + 4 + frame.payload.len();
-    Ok(Located { frame, behind })
-}
-
-// The codes of the record at a place of the tape, and the place behind it.
-#[derive(Clone, Copy)]
-struct Beginning {
-    codes: Codes,
-    behind: usize,
-}
-
-// The first record of a run.
-fn first_record(tape: &[u8], at: usize) -> Result<Beginning, RecordFault>
-    ensures codes { begun result ≡ first (drop at tape.now) }
-    ensures behind { IfOk result (λ b. (b.behind ≡ at + bytes_of (front (drop at tape.now))) × (b.behind ≤ length tape.now)) }
-{
-    let Located { frame, behind } = record_at(tape, at)?;
-    let codes = records::read_opening(frame)?;
-    Ok(Beginning { codes, behind })
+    // The record at the place reached, and the window behind it.
+    fn record(self) -> Result<(Frame<'a>, Window<'a>), RecordFault>
+        ensures front { taken_from result ≡ front (left self.entry) }
+        ensures behind { IfOk result (λ r. IsBehind self.entry r.1) }
+    {
+        let frame = Frame::first(self.left())?;
+        let behind = Window {
+            tape: self.tape,
+            at: self.at + 4 + frame.payload.len(),
+            number: self.number + 1,
+        };
+        Ok((frame, behind))
+    }
 }
 
 impl<'a> FreshRun<'a> {
@@ -137,51 +74,48 @@ impl<'a> FreshRun<'a> {
         if tape.len() > 65536 {
             return Err(Refusal::TapeTooLong);
         }
-        Ok(FreshRun {
-            window: Window {
-                tape,
-                at: 0,
-                number: 0,
-            },
-        })
+        Ok(FreshRun { tape })
     }
 
-    // Opens the run by its first record.
-    pub fn open(self, line: &mut [u8]) -> Opening<'a>
-        ensures { Opens self.entry line.old line.new result }
+    // The run behind the first record, if that opens it.
+    fn opened(self) -> Result<OpenedRun<'a>, RecordFault>
+        ensures { MatchResult result (Opened self.entry) (λ e. first self.entry.tape.now ≡ Err e) }
     {
-        if let Err(refusal) = has_room(line) {
-            return Opening::NoRoom { run: self, refusal };
+        let front = Window {
+            tape: self.tape,
+            at: 0,
+            number: 0,
+        };
+        let (frame, window) = front.record()?;
+        let codes = records::read_opening(frame)?;
+        Ok(OpenedRun { window, codes })
+    }
+
+    // Opens the run by its first record: where that leads, and the record's line.
+    pub fn first_line(self) -> (AfterRecord<'a>, Line)
+        ensures leads { OpensTo self.entry result.0 }
+        ensures line { result.1 ≡ first_line (first self.entry.tape.now) }
+    {
+        match self.opened() {
+            Ok(run) => {
+                let line = open_line(1, run.codes);
+                (AfterRecord::Running(run), line)
+            }
+            Err(e) => {
+                let refusal = Refusal::from(e);
+                let line = Refused { number: 1, refusal }.line();
+                (AfterRecord::Ended(EndedRun { records: 1 }), line)
+            }
         }
-        let FreshRun { window } = self;
-        let Window {
-            tape,
-            at,
-            number: _,
-        } = window;
-        match first_record(tape, at) {
-            Err(e) => Opening::Ended {
-                run: EndedRun { records: 1 },
-                line: put_refusal(
-                    line,
-                    Refused {
-                        number: 1,
-                        refusal: Refusal::Record(e),
-                    },
-                ),
-            },
-            Ok(Beginning { codes, behind }) => Opening::Opened {
-                line: put_open(line, 1, codes),
-                run: OpenedRun {
-                    window: Window {
-                        tape,
-                        at: behind,
-                        number: 1,
-                    },
-                    codes,
-                },
-            },
-        }
+    }
+
+    // The same, with the line in a lent buffer: where the record leads, and how long its line is.
+    pub fn open(self, buffer: &mut [u8]) -> Result<(AfterRecord<'a>, usize), NoRoom<FreshRun<'a>>>
+        ensures { Opens self.entry buffer.old buffer.new result }
+    {
+        let run = with_room(self, buffer)?;
+        let (next, line) = run.first_line();
+        Ok((next, line.write(buffer)))
     }
 }
 
@@ -193,57 +127,45 @@ impl<'a> OpenedRun<'a> {
         self.codes
     }
 
-    // Reads and obeys the next record, and writes its line.
-    fn next_record<const C: u8>(self, bank: &mut Bank<C>, line: &mut [u8]) -> Taking<'a>
-        ensures { Takes (format_of C) self.entry (holds bank.old) (holds bank.new) line.old line.new result }
+    // Takes the next record, with a bank that is lent for it: where that leads, and the record's line.
+    #[tactic(auto, using(crate::proofs::Unchanged::unchanged))]
+    pub fn next_line<F: NamedFormat>(self, bank: &mut Bank<F>) -> (AfterRecord<'a>, Line)
+        ensures leads { LeadsTo F.format self.entry (holds bank.old) result.0 }
+        ensures line { result.1 ≡ line_of F.format (holds bank.old) (next_number self.entry) (next_record self.entry) }
+        ensures places { holds bank.new ≡ places_of F.format (holds bank.old) (next_record self.entry) }
+        ensures refused_changes_nothing { is_err (outcome F.format (holds bank.old) (next_record self.entry)) ≡ true → holds bank.new ≡ holds bank.old }
     {
-        if let Err(refusal) = has_room(line) {
-            return Taking::NoRoom { run: self, refusal };
-        }
         let OpenedRun { window, codes } = self;
-        let Window { tape, at, number } = window;
-        let number = number.saturating_add(1);
-        let Located { frame, behind } = match record_at(tape, at) {
-            Ok(located) => located,
-            Err(e) => {
-                return Taking::Ended {
-                    run: EndedRun { records: number },
-                    line: put_refusal(
-                        line,
-                        Refused {
-                            number,
-                            refusal: Refusal::Record(e),
-                        },
-                    ),
-                };
+        let number = window.number + 1;
+        let ended = AfterRecord::Ended(EndedRun { records: number });
+        match window.record() {
+            Ok((frame, window)) => {
+                let running = AfterRecord::Running(OpenedRun { window, codes });
+                match answer(bank, frame) {
+                    Ok(reply) if reply.is_end() => (ended, reply.line::<F>(number)),
+                    Ok(reply) => (running, reply.line::<F>(number)),
+                    Err(refusal) => (running, Refused { number, refusal }.line()),
+                }
             }
-        };
-        let Answered { line, ends } = respond(bank, number, frame, line);
-        if ends {
-            return Taking::Ended {
-                run: EndedRun { records: number },
-                line,
-            };
-        }
-        Taking::Running {
-            run: OpenedRun {
-                window: Window {
-                    tape,
-                    at: behind,
-                    number,
-                },
-                codes,
-            },
-            line,
+            Err(e) => {
+                let refusal = Refusal::from(e);
+                (ended, Refused { number, refusal }.line())
+            }
         }
     }
 
-    // Takes the next record, with a bank that is lent for it.
-    pub fn take_record<const C: u8>(self, bank: &mut Bank<C>, line: &mut [u8]) -> Taking<'a>
-        ensures leads { Takes (format_of C) self.entry (holds bank.old) (holds bank.new) line.old line.new result }
-        ensures refused_changes_nothing { is_err (outcome (format_of C) (holds bank.old) (front (left self.entry.window))) ≡ true → holds bank.new ≡ holds bank.old }
+    // The same, with the line in a lent buffer: where the record leads, and how long its line is.
+    pub fn take_record<F: NamedFormat>(
+        self,
+        bank: &mut Bank<F>,
+        buffer: &mut [u8],
+    ) -> Result<(AfterRecord<'a>, usize), NoRoom<OpenedRun<'a>>>
+        ensures leads { Takes F.format self.entry (holds bank.old) (holds bank.new) buffer.old buffer.new result }
+        ensures refused_changes_nothing { is_err (outcome F.format (holds bank.old) (next_record self.entry)) ≡ true → holds bank.new ≡ holds bank.old }
     {
-        self.next_record(bank, line)
+        let run = with_room(self, buffer)?;
+        let (next, line) = run.next_line(bank);
+        Ok((next, line.write(buffer)))
     }
 }
 

@@ -2,26 +2,23 @@
 // of the answers, and many of binary32 against the machine's own floats.
 #![tactic(auto)]
 
-use arith::{Complex, Number, StepFault, Term};
+use arith::{Bfloat16, Binary16, Binary32, Complex, NamedFormat, Number, StepFault};
 use buyer::{TiesUpward, ToOdd};
 use rounding::{AwayFromZero, Nearest, Rule, ToEven, TowardZero};
 use std::io;
 
 // The complex number of two patterns, if they stand for numbers.
-fn read<const C: u8>(re: u32, im: u32) -> Option<Complex<Number<C>>> {
-    let Ok(re) = Number::<C>::from_pattern(re) else {
-        return None;
-    };
-    let Ok(im) = Number::<C>::from_pattern(im) else {
-        return None;
-    };
-    Some(Complex { re, im })
+fn read<F: NamedFormat>(re: u32, im: u32) -> Option<Complex<Number<F>>> {
+    Some(Complex {
+        re: Number::from_pattern(re).ok()?,
+        im: Number::from_pattern(im).ok()?,
+    })
 }
 
 // An answer in patterns, or its refusal.
-fn show<const C: u8>(
+fn show<F: NamedFormat>(
     rt: &HostRuntime,
-    answer: Result<Complex<Number<C>>, StepFault>,
+    answer: Result<Complex<Number<F>>, StepFault>,
 ) -> io::Result<()> {
     match answer {
         Ok(z) => {
@@ -40,8 +37,8 @@ fn show<const C: u8>(
 // The sum and the difference of two numbers of binary16 by one rule.
 fn show_both<R: Rule>(
     rt: &HostRuntime,
-    x: Complex<Number<1>>,
-    y: Complex<Number<1>>,
+    x: Complex<Number<Binary16>>,
+    y: Complex<Number<Binary16>>,
 ) -> io::Result<()> {
     show(rt, x.plus::<R>(y))?;
     show(rt, x.minus::<R>(y))
@@ -49,10 +46,7 @@ fn show_both<R: Rule>(
 
 // The sum and the difference of two numbers of binary16, by each rule in turn.
 fn check_worked(rt: &HostRuntime, a: u32, b: u32) -> io::Result<()> {
-    let Some(x) = read::<1>(a, b) else {
-        return Ok(());
-    };
-    let Some(y) = read::<1>(b, a) else {
+    let (Some(x), Some(y)) = (read(a, b), read(b, a)) else {
         return Ok(());
     };
     println!(rt; "{a:04X} {b:04X} and {b:04X} {a:04X}:")?;
@@ -76,10 +70,10 @@ fn folded(sum: u32, n: u32) -> u32 {
 }
 
 // A checksum with one answer more.
-fn with_answer<const C: u8>(sum: u32, answer: Result<Complex<Number<C>>, StepFault>) -> u32 {
+fn with_answer<F: NamedFormat>(sum: u32, answer: Result<Complex<Number<F>>, StepFault>) -> u32 {
     match answer {
         Ok(z) => folded(folded(sum, z.re.pattern()), z.im.pattern()),
-        Err(e) => folded(folded(sum, e.fault.number() as u32), e.step),
+        Err(e) => folded(folded(sum, e.fault.number().into()), e.step),
     }
 }
 
@@ -95,31 +89,30 @@ fn near(n: u32, unused: u32) -> (u32, u32) {
     )
 }
 
-// The checksum of sums and differences by one rule in one format, whose patterns have `unused` bits fewer than 32.
-fn check_many<const C: u8, R: Rule>(rt: &HostRuntime, rule: &str, unused: u32) -> io::Result<()> {
+// The checksum of sums and differences by one rule in one format, which has this code.
+fn check_many<F: NamedFormat, R: Rule>(rt: &HostRuntime, code: u8, rule: &str) -> io::Result<()> {
+    let unused = 32 - F::format().width;
     let mut sum = 0u32;
     let mut answers = 0u32;
     for n in 0..2000u32 {
         let (a, b) = near(n, unused);
         let (c, d) = near(!n, unused);
-        if let Some(x) = read::<C>(a, c) {
-            if let Some(y) = read::<C>(b, d) {
-                sum = with_answer(sum, x.plus::<R>(y));
-                sum = with_answer(sum, x.minus::<R>(y));
-                answers = answers.wrapping_add(2);
-            }
+        if let (Some(x), Some(y)) = (read::<F>(a, c), read::<F>(b, d)) {
+            sum = with_answer(sum, x.plus::<R>(y));
+            sum = with_answer(sum, x.minus::<R>(y));
+            answers = answers.wrapping_add(2);
         }
     }
-    println!(rt; "format {C}, {rule}: {answers} answers, checksum {sum}")
+    println!(rt; "format {code}, {rule}: {answers} answers, checksum {sum}")
 }
 
 // The same for every rule.
-fn check_rules<const C: u8>(rt: &HostRuntime, unused: u32) -> io::Result<()> {
-    check_many::<C, Nearest<ToEven>>(rt, "ties to even", unused)?;
-    check_many::<C, Nearest<AwayFromZero>>(rt, "ties away from zero", unused)?;
-    check_many::<C, Nearest<TowardZero>>(rt, "ties toward zero", unused)?;
-    check_many::<C, Nearest<ToOdd>>(rt, "ties to odd", unused)?;
-    check_many::<C, TiesUpward>(rt, "ties upward", unused)
+fn check_rules<F: NamedFormat>(rt: &HostRuntime, code: u8) -> io::Result<()> {
+    check_many::<F, Nearest<ToEven>>(rt, code, "ties to even")?;
+    check_many::<F, Nearest<AwayFromZero>>(rt, code, "ties away from zero")?;
+    check_many::<F, Nearest<TowardZero>>(rt, code, "ties toward zero")?;
+    check_many::<F, Nearest<ToOdd>>(rt, code, "ties to odd")?;
+    check_many::<F, TiesUpward>(rt, code, "ties upward")
 }
 
 // A pattern of binary32 as a float of the machine, if it is finite.
@@ -147,10 +140,10 @@ fn machine_sum(a: u32, b: u32) -> Option<u32> {
 }
 
 // What a step makes of it.
-fn step_sum(a: Number<3>, b: Number<3>) -> u32 {
-    match arith::step_sum::<3, Nearest<ToEven>>(Term::Number(a), Term::Number(b)) {
-        Ok(answer) => answer.number.pattern(),
-        Err(fault) => fault.number() as u32,
+fn step_sum(a: Number<Binary32>, b: Number<Binary32>) -> u32 {
+    match arith::step_sum::<Binary32, Nearest<ToEven>>(a.into(), b.into()) {
+        Ok(sum) => sum.pattern(),
+        Err(fault) => fault.number().into(),
     }
 }
 
@@ -160,12 +153,10 @@ fn check_machine(rt: &HostRuntime) -> io::Result<()> {
     let mut different = 0u32;
     for n in 0..20000u32 {
         let (a, b) = near(n, 0);
-        if let Ok(x) = Number::<3>::from_pattern(a) {
-            if let Ok(y) = Number::<3>::from_pattern(b) {
-                compared = compared.wrapping_add(1);
-                if machine_sum(a, b) != Some(step_sum(x, y)) {
-                    different = different.wrapping_add(1);
-                }
+        if let (Ok(x), Ok(y)) = (Number::from_pattern(a), Number::from_pattern(b)) {
+            compared = compared.wrapping_add(1);
+            if machine_sum(a, b) != Some(step_sum(x, y)) {
+                different = different.wrapping_add(1);
             }
         }
     }
@@ -186,8 +177,8 @@ fn main(rt: HostRuntime) -> io::Result<()> {
     ] {
         check_worked(&rt, a, b)?;
     }
-    check_rules::<1>(&rt, 16)?;
-    check_rules::<2>(&rt, 16)?;
-    check_rules::<3>(&rt, 0)?;
+    check_rules::<Binary16>(&rt, 1)?;
+    check_rules::<Bfloat16>(&rt, 2)?;
+    check_rules::<Binary32>(&rt, 3)?;
     check_machine(&rt)
 }

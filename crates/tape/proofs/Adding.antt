@@ -1,47 +1,50 @@
 -- Texts added one behind the other.
-use Rattle.std.proofs.Common.{◌≡◌, ℕ, ◌+◌, ◌<◌, ◌≤◌, List, [], ◌++◌, length, Ok, Err, Result, sym, refl, ap, ◌∙◌, append_assoc, append-nil, arith, length-append}
+use Rattle.std.proofs.Common.{◌≡◌, ℕ, ◌+◌, ◌<◌, ◌≤◌, List, ◌++◌, length, OnOk, vec_items, vec_capacity, Ok, Err, Result, Vec, sym, ap, ◌∙◌, append_assoc, le_trans, arith, length-append}
+use Rattle.std.proofs.lemmas.List.{drop_at}
 use Rattle.std.specs.declared.alloc.AllocError.{AllocError}
-use Rattle.tape.specs.Added.{NoMemory, Adds}
+use Rattle.std.specs.declared.alloc.Global.{Global}
+use Rattle.tape.specs.Added.{Adds, added}
 
--- a part of the whole text was added, and the rest is still to come
-pub record Midway (before after whole rest : List ℕ) : Type 0 where
-  pub done : List ℕ
-  pub whole_is : whole ≡ done ++ rest
-  pub after_is : after ≡ before ++ done
+-- the text was added, whatever value is answered with it
+pub added_all : {A B : Type 0} {out end : Vec ℕ Global} {text : List ℕ} {a : A} (b : B) → Adds out end text (Ok a) → Adds out end text (Ok b)
+added_all b h = grind arith
 
-pub at_first : (before whole : List ℕ) → Midway before before whole whole
-at_first before whole = record { done = []; whole_is = refl; after_is = sym (append-nil before) }
+-- memory is wanting for a line, and so for the line with others behind it
+pub wanting : {A B : Type 0} {out end : Vec ℕ Global} {line : List ℕ} {e : AllocError} (others : List ℕ) → Adds {A = A} out end line (Err e) → Adds {A = B} out end (line ++ others) (Err e)
+wanting {out = out} {line = line} others h = record {
+  adds = record {
+    full = more (vec_capacity out) (length (vec_items out)) (length line) (length others) (length (line ++ others)) h.adds.full (length-append line others);
+    some = h.adds.some;
+    others = h.adds.others ++ others;
+    text_is = ap (λ l. l ++ others) h.adds.text_is ∙ append_assoc h.adds.some h.adds.others others;
+    after_is = h.adds.after_is;
+  };
+  capacity = h.capacity;
+}
+  where
+    more : (c n l o lo : ℕ) → c < n + l → lo ≡ l + o → c < n + lo
+    more c n l o lo h e = omega arith
 
-module _ {before after whole rest : List ℕ} (m : Midway before after whole rest) where
-  pub one_more : (line others after' : List ℕ) → rest ≡ line ++ others → after' ≡ after ++ line → Midway before after' whole others
-  one_more line others after' er ea = record {
-    done = m.done ++ line;
-    whole_is = m.whole_is ∙ ap (λ l. m.done ++ l) er ∙ sym (append_assoc m.done line others);
-    after_is = ea ∙ ap (λ l. l ++ line) m.after_is ∙ append_assoc before m.done line;
-  }
+-- a line was added, and then whatever comes of adding the others
+pub adds_then : {A B : Type 0} {out mid end : Vec ℕ Global} {line others : List ℕ} {a : A} (r : Result B AllocError) → Adds out mid line (Ok a) → Adds mid end others r → Adds out end (line ++ others) r
+adds_then {out = out} {line = line} {others = others} (Ok b) h k = record {
+  adds = k.adds ∙ ap (λ l. l ++ others) h.adds ∙ append_assoc (vec_items out) line others;
+  capacity = le_trans h.capacity k.capacity;
+}
+adds_then {out = out} {mid = mid} {line = line} {others = others} (Err e) h k = record {
+  adds = record {
+    full = less (vec_capacity out) (vec_capacity mid) (length (vec_items out)) (length line) (length others) (length (vec_items mid)) (length (line ++ others)) h.capacity k.adds.full (ap length h.adds ∙ length-append (vec_items out) line) (length-append line others);
+    some = line ++ k.adds.some;
+    others = k.adds.others;
+    text_is = ap (λ l. line ++ l) k.adds.text_is ∙ sym (append_assoc line k.adds.some k.adds.others);
+    after_is = k.adds.after_is ∙ ap (λ l. l ++ k.adds.some) h.adds ∙ append_assoc (vec_items out) line k.adds.some;
+  };
+  capacity = le_trans h.capacity k.capacity;
+}
+  where
+    less : (c d n l o m lo : ℕ) → c ≤ d → d < m + o → m ≡ n + l → lo ≡ l + o → c < n + lo
+    less c d n l o m lo h k em el = omega arith
 
-  pub finished : (after' : List ℕ) → after' ≡ after ++ rest → after' ≡ before ++ whole
-  finished after' e =
-      e ∙ ap (λ l. l ++ rest) m.after_is ∙ append_assoc before m.done rest ∙ ap (λ l. before ++ l) (sym m.whole_is)
-
-  -- memory is wanting for a line of the rest
-  pub no_memory : (room room' : ℕ) (line others after' : List ℕ) → room ≤ room' → rest ≡ line ++ others → NoMemory room' after after' line → NoMemory room before after' whole
-  no_memory room room' line others after' grown er k = record {
-    full =
-        less room room' (length after) (length line) (length before) (length m.done) (length whole) (length rest) (length others) grown k.full
-        (ap length m.after_is ∙ length-append before m.done) (ap length m.whole_is ∙ length-append m.done rest) (ap length er ∙ length-append line others);
-    some = m.done ++ k.some;
-    others = k.others ++ others;
-    text_is =
-        m.whole_is ∙ ap (λ l. m.done ++ l) (er ∙ ap (λ l. l ++ others) k.text_is ∙ append_assoc k.some k.others others)
-        ∙ sym (append_assoc m.done k.some (k.others ++ others));
-    after_is = k.after_is ∙ ap (λ l. l ++ k.some) m.after_is ∙ append_assoc before m.done k.some;
-  }
-    where
-      less : (room room' a l b d w r o : ℕ) → room ≤ room' → room' < a + l → a ≡ b + d → w ≡ d + r → r ≡ l + o → room < b + w
-      less room room' a l b d w r o h k ea ew er = omega arith
-
--- a text, and whatever comes of adding the rest
-pub adds_rest : {before after whole rest : List ℕ} (m : Midway before after whole rest) (room room' : ℕ) (after' : List ℕ) (r : Result (Unit {0}) AllocError) → room ≤ room' → Adds room' after after' rest r → Adds room before after' whole r
-adds_rest m room room' after' (Ok u) grown a = finished m after' a
-adds_rest {rest = rest} m room room' after' (Err e) grown a = no_memory m room room' rest [] after' grown (sym (append-nil rest)) a
+-- what holds of a text holds of what was added, if that is the text
+pub of_added : (P : List ℕ → Type 0) {A : Type 0} {out end : Vec ℕ Global} {text : List ℕ} (r : Result A AllocError) → Adds out end text r → P text → OnOk r (P (added out end))
+of_added P r h p = grind (arith, drop_at)

@@ -1,17 +1,16 @@
 -- What stands behind the records that are read makes no difference.
-use Rattle.std.proofs.Common.{◌≡◌, ℕ, zero, suc, ◌+◌, ◌-◌, ◌<◌, ◌≤◌, Bool, true, false, cond, ◌⊎◌, List, [], ◌∷◌, ◌++◌, length, drop, is_err, Ok, Err, Result, sym, refl, ap, ◌∙◌, subst, le_of_eq, le_of_suc-le-suc, not-suc-le-zero, arith, length-append, length-drop}
-use native.Mathlib.Nat.{add-sub_cancel_left, le_intro}
+use Rattle.std.proofs.Common.{◌≡◌, ℕ, zero, suc, ◌+◌, ◌<◌, ◌≤◌, Bool, true, cond, ◌⊎◌, List, [], ◌∷◌, ◌++◌, length, drop, is_err, Ok, Err, sym, refl, ap, ◌∙◌, subst, le_of_eq, le_of_suc-le-suc, not-suc-le-zero, arith, length-append, length-drop}
+use native.Mathlib.Nat.{le_intro}
 use Rattle.std.proofs.lemmas.List.{drop-append-le, nil_from_length}
+use Rattle.std.proofs.lemmas.List.Sums.{sum_by-cons}
 use Rattle.arith.specs.Sequence.{and_then}
 use Rattle.records.specs.Asked.{opening}
 use Rattle.records.specs.Frames.{Framed, front}
-use Rattle.records.specs.declared.codes.Codes.{Codes}
 use Rattle.records.specs.declared.fault.RecordFault.{RecordFault}
 use Rattle.records.specs.declared.fault.RecordFault.TheVariants.{MissingPart}
-use Rattle.run.specs.States.{first}
 use Rattle.run.specs.Turns.{bytes_of}
 use Rattle.tape.specs.Printed.{printed}
-use Rattle.tape.specs.Reading.{Read, is_last, records_of, behind_first, read_of, bytes_in, all_whole}
+use Rattle.tape.specs.Reading.{Read, is_last, records_of, read_of, bytes_in, all_whole}
 use Rattle.tape.proofs.Fronts.{only_missing, drop_shorter, front_kept}
 use Rattle.tape.proofs.Told.{told_whole, printed_told}
 
@@ -21,9 +20,10 @@ record Passed (a y : List ℕ) (rs : List Read) : Type 0 where
   ends : (all_whole rs ≡ true) ⊎ (front y ≡ Err MissingPart)
 
 passed_on : (a y : List ℕ) (r : Framed) (rs : List Read) → Passed a y (Ok r ∷ rs) → Passed (drop (4 + length r.payload) a) y rs
-passed_on a y r rs p =
-    let m = 4 + length r.payload in
-    record { bytes = length-drop m a ∙ ap (λ n. n - m) p.bytes ∙ add-sub_cancel_left m (bytes_in rs); ends = p.ends }
+passed_on a y r rs p = record {
+  bytes = omega (arith, length-drop (4 + length r.payload) a, p.bytes, sum_by-cons bytes_of (Ok r) rs);
+  ends = p.ends;
+}
 
 -- the records of bs from r on, which is at the front: r alone if it is the last, or else at most i more
 abbrev records_from : (Read → Bool) → ℕ → List ℕ → Read → List Read
@@ -41,25 +41,19 @@ module _ (x y : List ℕ) where
     rest_same : (last : Bool) (s : ℕ) → 4 + s ≤ length a
         → Passed (drop (4 + s) a) y (cond last [] (records_of i (drop (4 + s) (a ++ x))))
         → cond last [] (records_of j (drop (4 + s) (a ++ y))) ≡ cond last [] (records_of i (drop (4 + s) (a ++ x)))
-    rest_same true s h p = refl
-    rest_same false s h p =
-        let l = drop_shorter s a h in
-        rw (drop-append-le (4 + s) a x h, drop-append-le (4 + s) a y h)
-        (same (drop (4 + s) a) (less (length x) l hx) (less (length y) l hy) (rw (drop-append-le (4 + s) a x h) at p))
-      where
-        less : {d n i : ℕ} (k : ℕ) → d < n → n + k ≤ i → d + k < i
-        less k l h = omega arith
+    rest_same last s h p =
+        grind (arith, drop-append-le (4 + s) a x h, drop-append-le (4 + s) a y h, drop_shorter s a h, same (drop (4 + s) a))
 
     -- where a part is missing, the record is the last by any test
     module _ (last : Read → Bool) (missing-last : (e : RecordFault) → last (Err e) ≡ true) where
       from_same : (r : Read) → front (a ++ x) ≡ r → Passed a y (records_from last i (a ++ x) r)
           → records_from last j (a ++ y) (front (a ++ y)) ≡ records_from last i (a ++ x) r
       from_same (Ok r) q p =
-          let h = le_intro (4 + length r.payload) _ (sym p.bytes) in
+          let h = le_intro (4 + length r.payload) _ (sym (p.bytes ∙ sum_by-cons bytes_of (Ok r) (cond (last (Ok r)) [] (records_of i (drop (4 + length r.payload) (a ++ x)))))) in
           ap (records_from last j (a ++ y)) (front_kept a x y r q h)
           ∙ ap (λ rs. Ok r ∷ rs) (rest_same (last (Ok r)) (length r.payload) h (passed_on a y r _ p))
       from_same (Err e) q p =
-          let bytes = p.bytes ∙ ap (λ b. 0 + bytes_in (cond b [] (records_of i (a ++ x)))) (missing-last e) in
+          let bytes = p.bytes ∙ ap (λ b. bytes_in (Err e ∷ cond b [] (records_of i (a ++ x)))) (missing-last e) in
           let none : a ≡ [] = nil_from_length a bytes in
           let only = only_missing (a ++ x) e q in
           let missing : front (a ++ y) ≡ Err e = grind arith in
@@ -76,11 +70,7 @@ abbrev not_opening : Read → Bool
 not_opening r = is_err (and_then r opening)
 
 read_from : (t : List ℕ) → read_of t ≡ records_from not_opening (length t) t (front t)
-read_from t = ap (λ rs. front t ∷ rs) (behind (first t))
-  where
-    behind : (r : Result Codes RecordFault) → behind_first t r ≡ cond (is_err r) [] (records_of (length t) (drop (bytes_of (front t)) t))
-    behind (Ok c) = refl
-    behind (Err e) = refl
+read_from t = grind arith
 
 read_same : (a x y : List ℕ) → Passed a y (read_of (a ++ x)) → read_of (a ++ y) ≡ read_of (a ++ x)
 read_same a x y p =

@@ -1,4 +1,3 @@
-mod Taken
 mod Adding
 mod Turning
 mod Openings

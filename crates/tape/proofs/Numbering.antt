@@ -10,10 +10,9 @@ use Rattle.records.specs.declared.codes.Codes.{Codes}
 use Rattle.records.specs.declared.fault.RecordFault.{RecordFault}
 use Rattle.records.specs.declared.kind.Kind.{Kind}
 use Rattle.records.specs.declared.kind.Kind.TheVariants.{Open, Load, Show, Note, End}
-use Rattle.run.specs.Lines.{Done, loaded_at, shown_at, noted, ended, start, field, newline, text_field, pattern_digits, refusal_line}
+use Rattle.run.specs.Lines.{Done, loaded_at, shown_at, noted, ended, start, field, newline, text_field, done_word, done_fields, refusal_line}
 use Rattle.run.specs.Refusals.{number_of}
 use Rattle.run.specs.States.{first_line}
-use Rattle.run.specs.Text.{hexadecimal}
 use Rattle.run.specs.Turns.{answered, outcome, line_by, line_of}
 use Rattle.run.specs.declared.refusal.Refusal.{Refusal}
 use Rattle.run.specs.declared.refusal.Refusal.TheVariants.{Record}
@@ -37,12 +36,8 @@ closed_more x p c =
 closed_number : {l : List ℕ} (n : ℕ) → Closed l → Closed (field (decimal n) ++ l)
 closed_number n c = closed_more (field (decimal n)) (unbroken_decimal n) c
 
-closed_pattern : {l : List ℕ} (w n : ℕ) → Closed l → Closed (field (hexadecimal w n) ++ l)
-closed_pattern w n c = closed_more (field (hexadecimal w n)) (unbroken_hexadecimal w n) c
-
 unbroken_text : (t : List ℕ) → unbroken t ≡ true → unbroken (text_field t) ≡ true
-unbroken_text [] p = refl
-unbroken_text (b ∷ bs) p = p
+unbroken_text t p = grind arith
 
 line_started : {l : List ℕ} (n : ℕ) (word : List ℕ) → unbroken word ≡ true → Closed l → Line n (start n word ++ l)
 line_started n word p c =
@@ -67,17 +62,14 @@ repeated (Ok (noted t)) = t
 repeated (Ok ended) = []
 repeated (Err e) = []
 
+unbroken_word : (d : Done) → unbroken (done_word d) ≡ true
+unbroken_word d = grind arith
+
+unbroken_fields : (f : Format) (d : Done) → unbroken (repeated (Ok d)) ≡ true → unbroken (done_fields f d) ≡ true
+unbroken_fields f d p = grind (arith, unbroken_append, unbroken_decimal, unbroken_hexadecimal, unbroken_text)
+
 line_by_lem : (f : Format) (n : ℕ) (r : Result Done Refusal) → unbroken (repeated r) ≡ true → Line n (line_by f n r)
-line_by_lem f n (Ok (loaded_at d)) p = line_started n (word_of Load) refl (closed_number d closed_newline)
-line_by_lem f n (Ok (shown_at d s)) p =
-    line_started n (word_of Show) refl
-    (closed_number d
-    (closed_pattern (pattern_digits f) s.re
-    (closed_pattern (pattern_digits f) s.im
-    (closed_number s.depth closed_newline))))
-line_by_lem f n (Ok (noted t)) p = line_started n (word_of Note) refl (closed_more (text_field t) (unbroken_text t p) closed_newline)
-line_by_lem f n (Ok ended) p = line_started n (word_of End) refl closed_newline
-line_by_lem f n (Err e) p = line_refused n e
+line_by_lem f n r p = grind (arith, line_refused, line_started, unbroken_word, closed_more, unbroken_fields, closed_newline)
 
 unbroken_by_kind : (f : Format) (ps : List Slot) (p : List ℕ) (k : Result Kind RecordFault)
     → unbroken (repeated (answered f ps (and_then k (asked_by f p)))) ≡ true

@@ -1,11 +1,10 @@
 -- What a show answers after some records, on a bank that was new before them: the patterns that its place was last loaded with.
-use Rattle.std.proofs.Common.{◌≡◌, ℕ, ◌<◌, Bool, false, cond, ◌&&◌, eqb, ltb, List, [], ◌∷◌, length, get_or, is_ok, IfOk, Some, None, Ok, Err, Option, Result, ap, arith, get_or-set_other, get_or-set_same, lt-length-set}
+use Rattle.std.proofs.Common.{◌≡◌, ℕ, ◌<◌, cond, ◌&&◌, eqb, List, [], ◌∷◌, length, get_or, is_ok, IfOk, Some, None, Ok, Err, Option, Result, ap, arith, get_or-set_other, get_or-set_same, lt-length-set}
 use lib.ListN.{get_or-replicate}
+use Rattle.std.proofs.lemmas.Bool.Decides.{nat_tests}
 use Rattle.std.proofs.lemmas.Result.{IfOk-weaker}
-use Rattle.arith.specs.Format.{format_of}
 use Rattle.arith.specs.Sequence.{and_then}
 use Rattle.arith.specs.declared.format.Format.{Format}
-use Rattle.arith.proofs.Formats.{Sound, sound}
 use Rattle.bank.proofs.Loads.{loaded_shows}
 use Rattle.bank.specs.Calls.{loaded, written, shown_of, shown}
 use Rattle.bank.specs.Slots.{Slot, empty, fresh}
@@ -16,19 +15,13 @@ use Rattle.run.specs.Turns.{places_if}
 use Rattle.tape.specs.Reading.{Read, PatternPair, load_asked, later, last_load, loaded_shown, shown_last}
 use Rattle.tape.proofs.After.{places_after}
 
-same_unless : {X : Type 0} (b : Bool) (x y z : X) → (b ≡ false → y ≡ z) → cond b x y ≡ cond b x z
-same_unless b x y z h = grind arith
-
-below_16 : (d : ℕ) → ltb 15 d ≡ false → d < 16
-below_16 d e = grind arith
-
-module _ (f : Format) (s : Sound f) where
+module _ (f : Format) where
   -- a slot that shows the patterns m and n, as they are shown after a load
   abbrev Shows : ℕ → ℕ → Slot → Type 0
   Shows m n t = shown_of f t ≡ loaded_shown f (Some (record { re = m; im = n }))
 
   shows : (p m n : ℕ) → IfOk (loaded f p m n) (Shows m n)
-  shows p m n = IfOk-weaker (loaded f p m n) _ _ (λ t h. h.1) (loaded_shows f s p m n)
+  shows p m n = IfOk-weaker (loaded f p m n) _ _ (λ t h. h.1) (loaded_shows f p m n)
 
   module _ (d : ℕ) where
     -- ---- the place d is there, and what it holds is shown as the last load of it, if there is one
@@ -55,5 +48,7 @@ module _ (f : Format) (s : Sound f) where
     after_records [] h = h
     after_records (r ∷ rs) h = after_records rs (after_record (and_then r (asked f)) h)
 
-pub shown_last_lem : (c : ℕ) (rs : List Read) (d : ℕ) → shown (format_of c) (places_after (format_of c) fresh rs) d ≡ shown_last (format_of c) d (last_load (format_of c) d None rs)
-shown_last_lem c rs d = same_unless (ltb 15 d) _ _ _ (λ e. (after_records (format_of c) (sound c) d rs (at_first _ _ _ (below_16 d e))).same)
+pub shown_last_lem : (f : Format) (rs : List Read) (d : ℕ) → shown f (places_after f fresh rs) d ≡ shown_last f d (last_load f d None rs)
+shown_last_lem f rs d =
+    let known = λ (h : d < 16). (after_records f d rs (at_first f d h)).same in
+    grind (arith, nat_tests, known)

@@ -1,6 +1,6 @@
 -- What is printed is told of the records that are read, one after another.
-use Rattle.std.proofs.Common.{◌≡◌, ℕ, zero, suc, ◌+◌, ◌≤◌, Bool, true, false, cond, List, [], ◌∷◌, ◌++◌, length, drop, Ok, Err, Result, sym, refl, ap, ◌∙◌, append_assoc, zero-add, arith}
-use Rattle.std.proofs.lemmas.Bool.{le-ltb}
+use Rattle.std.proofs.Common.{◌≡◌, ℕ, zero, suc, ◌+◌, ◌≤◌, List, [], ◌∷◌, ◌++◌, length, drop, Ok, Err, Result, sym, refl, ap, ◌∙◌, append_assoc, arith}
+use Rattle.std.proofs.lemmas.Bool.Decides.{nat_tests}
 use Rattle.arith.specs.Format.{format_of}
 use Rattle.arith.specs.Sequence.{and_then}
 use Rattle.arith.specs.declared.format.Format.{Format}
@@ -11,9 +11,8 @@ use Rattle.records.specs.declared.codes.Codes.{Codes}
 use Rattle.records.specs.declared.fault.RecordFault.{RecordFault}
 use Rattle.run.specs.States.{first, first_line}
 use Rattle.run.specs.Turns.{line_of, places_of, bytes_of}
-use Rattle.run.specs.declared.refusal.Refusal.TheVariants.{TapeTooLong}
-use Rattle.tape.specs.Printed.{lines_of, format_in, lines_behind, printed_if, printed}
-use Rattle.tape.specs.Reading.{Read, is_last, records_of, behind_first, read_of, Numbered}
+use Rattle.tape.specs.Printed.{lines_of, format_in, printed}
+use Rattle.tape.specs.Reading.{Read, records_of, behind_first, read_of, Numbered}
 use Rattle.tape.proofs.After.{places_after}
 use Rattle.tape.proofs.Last.{ends_at_last}
 use Rattle.tape.proofs.Numbering.{line_first, line_of_lem}
@@ -23,18 +22,11 @@ abbrev told : Format → List Slot → ℕ → List Read → List ℕ
 told f ps n [] = []
 told f ps n (r ∷ rs) = line_of f ps n r ++ told f (places_of f ps r) (n + 1) rs
 
-told_if : (f : Format) (ps : List Slot) (n : ℕ) (b : Bool) (text : List ℕ) (rs : List Read)
-    → text ≡ told f ps n rs → cond b [] text ≡ told f ps n (cond b [] rs)
-told_if f ps n true text rs e = refl
-told_if f ps n false text rs e = e
-
 lines_told : (i : ℕ) (f : Format) (ps : List Slot) (n : ℕ) (bs : List ℕ) → lines_of i f ps n bs ≡ told f ps n (records_of i bs)
 lines_told zero f ps n bs = refl
 lines_told (suc i) f ps n bs =
-    let qs = places_of f ps (front bs) in
-    let rest = drop (bytes_of (front bs)) bs in
-    ap (λ b. line_of f ps n (front bs) ++ cond b [] (lines_of i f qs (n + 1) rest)) (ends_at_last f ps (front bs))
-    ∙ ap (λ l. line_of f ps n (front bs) ++ l) (told_if f qs (n + 1) (is_last (front bs)) _ _ (lines_told i f qs (n + 1) rest))
+    let more = lines_told i f (places_of f ps (front bs)) (n + 1) (drop (bytes_of (front bs)) bs) in
+    grind (arith, ends_at_last f ps (front bs))
 
 numbered_told : (f : Format) (ps : List Slot) (n : ℕ) (rs : List Read) → Numbered (length rs) n (told f ps n rs)
 numbered_told f ps n [] = refl
@@ -42,12 +34,8 @@ numbered_told f ps n (r ∷ rs) = (_, _, refl, line_of_lem f ps n r, numbered_to
 
 told_append : (f : Format) (ps : List Slot) (n : ℕ) (before rs : List Read)
     → told f ps n (before ++ rs) ≡ told f ps n before ++ told f (places_after f ps before) (length before + n) rs
-told_append f ps n [] rs = rw zero-add
-told_append f ps n (s ∷ before) rs =
-    ap (λ l. line_of f ps n s ++ l) (told_append f (places_of f ps s) (n + 1) before rs) ∙ rw (counted_on, append_assoc)
-  where
-    counted_on : (m n : ℕ) → m + (n + 1) ≡ suc m + n
-    counted_on m n = omega arith
+told_append f ps n [] rs = grind arith
+told_append f ps n (s ∷ before) rs = grind (arith, append_assoc, told_append f (places_of f ps s) (n + 1) before rs)
 
 -- the format of a run: if its first record is refused, then none is read behind it, and any format will do
 abbrev format_by : Result Codes RecordFault → Format
@@ -59,14 +47,8 @@ abbrev pub told_whole : List Read → List ℕ
 told_whole [] = []
 told_whole (r ∷ rs) = first_line (and_then r opening) ++ told (format_by (and_then r opening)) fresh 2 rs
 
-behind_told : (t : List ℕ) (r : Result Codes RecordFault) → lines_behind t r ≡ told (format_by r) fresh 2 (behind_first t r)
-behind_told t (Ok c) = lines_told (length t) (format_in c) fresh 2 (drop (bytes_of (front t)) t)
-behind_told t (Err e) = refl
-
 pub printed_told : (t : List ℕ) → length t ≤ 65536 → printed t ≡ told_whole (read_of t)
-printed_told t h =
-    ap (λ b. printed_if t (cond b (Err TapeTooLong) (Ok tt))) (le-ltb 65536 (length t) h)
-    ∙ ap (λ l. first_line (first t) ++ l) (behind_told t (first t))
+printed_told t h = grind (arith, nat_tests, lines_told)
 
 numbered_whole : (rs : List Read) → Numbered (length rs) 1 (told_whole rs)
 numbered_whole [] = refl

@@ -1,5 +1,5 @@
 -- What is printed for a tape.
-use Rattle.std.specs.Prelude.{◌≡◌, ℕ, zero, suc, ◌+◌, ◌≤◌, true, cond, List, [], ◌++◌, length, drop, Some, None, Ok, Err, Option, Result}
+use Rattle.std.specs.Prelude.{ℕ, zero, suc, ◌+◌, cond, List, [], ◌++◌, length, drop, Ok, Err, Result}
 use Rattle.arith.specs.Format.{format_of}
 use Rattle.arith.specs.declared.format.Format.{Format}
 use Rattle.bank.specs.Slots.{Slot, fresh}
@@ -8,10 +8,9 @@ use Rattle.records.specs.Frames.{front}
 use Rattle.records.specs.declared.codes.Codes.{Codes}
 use Rattle.records.specs.declared.fault.RecordFault.{RecordFault}
 use Rattle.run.specs.Lines.{refusal_line}
-use Rattle.run.specs.States.{short_tape, left, first, first_line, next_number, GoesOn}
+use Rattle.run.specs.States.{short_tape, first, first_line}
 use Rattle.run.specs.Turns.{line_of, places_of, ends_of, bytes_of}
 use Rattle.run.specs.declared.refusal.Refusal.{Refusal}
-use Rattle.run.specs.declared.states.OpenedRun.{OpenedRun}
 
 -- The lines of the records at the front of some bytes, numbered from n on, with a bank of the format f whose places hold ps:
 -- at most so many records, and none behind the one that ends the run.
@@ -46,19 +45,3 @@ printed_if t (Err e) = refusal_line 0 e
 -- what is printed for a tape
 abbrev pub printed : List ℕ → List ℕ
 printed t = printed_if t (short_tape (length t))
-
--- ---- one record more is printed
-pub record PrintedOne (f : Format) (run : OpenedRun) (ps qs : List Slot) (before after : List ℕ) : Type 0 where
-  pub text : after ≡ before ++ line_of f ps (next_number run) (front (left run.window))
-  pub places : qs ≡ places_of f ps (front (left run.window))
-
--- and the run goes on, or ends
-abbrev pub Prints : Format → OpenedRun → List Slot → List Slot → List ℕ → List ℕ → Option OpenedRun → Type 0
-Prints f run ps qs before after (Some next) = GoesOn f run ps next × PrintedOne f run ps qs before after
-Prints f run ps qs before after None = (ends_of f ps (front (left run.window)) ≡ true) × PrintedOne f run ps qs before after
-
--- a run over a tape that is not too long, within it, which has counted no more records than bytes
-pub record InTape (run : OpenedRun) : Type 0 where
-  pub short : length run.window.tape.now ≤ 65536
-  pub within : run.window.at ≤ length run.window.tape.now
-  pub counted : run.window.number ≤ run.window.at

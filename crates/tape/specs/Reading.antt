@@ -1,5 +1,6 @@
 -- Which records of a tape are read, and laws over whole tapes: what holds of the text that is printed for a tape.
-use Rattle.std.specs.Prelude.{◌≡◌, ℕ, zero, suc, ◌+◌, ◌≤◌, Bool, true, false, cond, ◌&&◌, ◌⊎◌, List, [], ◌∷◌, ◌++◌, length, drop, is_ok, Some, None, Ok, Err, decimal, Option, Result, ◌==◌, nat_le, nat_lt}
+use Rattle.std.specs.Prelude.{◌≡◌, ℕ, zero, suc, ◌+◌, ◌≤◌, Bool, true, cond, ◌&&◌, ◌⊎◌, List, [], ◌∷◌, ◌++◌, length, drop, sum_by, is_ok, Some, None, Ok, Err, decimal, Option, Result, ◌==◌, nat_le, nat_lt}
+use Rattle.std.specs.List.{list_all}
 use Rattle.std.specs.Result.{result_map_both}
 use Rattle.arith.specs.Pattern.{plain_zero}
 use Rattle.arith.specs.Sequence.{and_then}
@@ -48,8 +49,7 @@ read_of t = front t ∷ behind_first t (first t)
 
 -- bytes none of which ends a line
 abbrev pub unbroken : List ℕ → Bool
-unbroken [] = true
-unbroken (b ∷ bs) = nat_le 32 b && unbroken bs
+unbroken bs = list_all (nat_le 32) bs
 
 -- a line: its number, a space, its text, and the one byte that ends it
 pub record Line (n : ℕ) (l : List ℕ) : Type 0 where
@@ -79,14 +79,11 @@ ReadOut t (Err e) = Unit {0}
 
 -- the bytes that are passed over
 abbrev pub bytes_in : List Read → ℕ
-bytes_in [] = 0
-bytes_in (r ∷ rs) = bytes_of r + bytes_in rs
+bytes_in rs = sum_by bytes_of rs
 
 -- no part of a record is missing
 abbrev pub all_whole : List Read → Bool
-all_whole [] = true
-all_whole (Ok r ∷ rs) = all_whole rs
-all_whole (Err e ∷ rs) = false
+all_whole rs = list_all is_ok rs
 
 -- Of a tape a ++ x, where a is what was passed over, x may be exchanged for any other y: behind an accepted end and behind
 -- a first record that is refused always, and in front of a missing part if a part is missing in y too.

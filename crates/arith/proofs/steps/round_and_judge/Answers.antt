@@ -1,12 +1,17 @@
+-- A rule's answer has the form of a number.
+use Rattle.std.proofs.Common.{ap, ◌∙◌}
+use Rattle.exact.specs.Exact.{is_negative}
 use Rattle.exact.specs.Parts.{parts}
-use Rattle.rounding.specs.Values.{unrounded_value}
-use Rattle.arith.specs.Format.{format_of}
+use Rattle.rounding.specs.Values.{exact_value}
 use Rattle.arith.proofs.Range.{formed}
 use Rattle.arith.proofs.steps.round_and_judge.Goals as goal
 
-pub invariant_of-in_range : goal.invariant_of-in_range
-invariant_of-in_range g c =
-    let t = c.args.t in
+pub invariant_of-result-clause-short : goal.invariant_of-result-clause-short
+invariant_of-result-clause-short g c =
     let m = c.round-significand.result in
-    let f = formed (format_of g.row.C).precision c.precision.result.bits g.R.Rule.rn g.met.R.Rule.rounds (unrounded_value t) (parts t.negative m.0 m.1) c.precision.result.some c.precision.ensures c.round-significand.ensures in
-    record { short = f.short; full = f.full; plain = f.plain }
+    (formed g.F.NamedFormat.format.precision c.from.result.bits g.R.Rule.rn g.met.R.Rule.rounds (exact_value c.args.t) (parts (is_negative c.args.t.whole) m.0 m.1) c.from.result.some (c.from.ensures ∙ ap (λ f. f.precision) c.format.ensures) c.round-significand.ensures).short
+
+pub invariant_of-result-clause-full : goal.invariant_of-result-clause-full
+invariant_of-result-clause-full g c =
+    let m = c.round-significand.result in
+    (formed g.F.NamedFormat.format.precision c.from.result.bits g.R.Rule.rn g.met.R.Rule.rounds (exact_value c.args.t) (parts (is_negative c.args.t.whole) m.0 m.1) c.from.result.some (c.from.ensures ∙ ap (λ f. f.precision) c.format.ensures) c.round-significand.ensures).full

@@ -1,19 +1,20 @@
-use Rattle.std.proofs.Common.{◌+◌, ◌-◌, ◌≤◌, length, vec_items, vec_capacity}
-use Rattle.arith.specs.Format.{format_of}
+use Rattle.std.proofs.Common.{ℕ, length, Result, Vec}
+use Rattle.std.specs.declared.alloc.AllocError.{AllocError}
+use Rattle.std.specs.declared.alloc.Global.{Global}
 use Rattle.bank.specs.Slots.{fresh}
 use Rattle.bank.specs.Views.{holds}
-use Rattle.run.specs.States.{left}
-use Rattle.tape.specs.Printed.{lines_from, InTape}
-use Rattle.tape.proofs.Adding.{Midway}
+use Rattle.run.specs.States.{left, next_number}
+use Rattle.tape.specs.Added.{Adds}
+use Rattle.tape.specs.Printed.{lines_from}
 use Rattle.tape.proofs.print.print_records.Given as goal
 
--- some lines were added, and those from the run's place on are still to come
+-- whatever comes of adding the lines that are left comes of adding all of them
 abbrev pub invariant-loop-next : goal.invariant-loop-next
 invariant-loop-next g l =
-    Midway (vec_items l.initial.out) (vec_items l.out) (lines_from (format_of g.row.C) fresh (l.initial.run.window.number + 1) (left l.initial.run.window)) (lines_from (format_of g.row.C) (holds l.bank) (l.run.window.number + 1) (left l.run.window))
-    × (vec_capacity l.initial.out ≤ vec_capacity l.out)
-    × InTape l.run
+    (end : Vec ℕ Global) (r : Result (Unit {0}) AllocError)
+    → Adds l.out end (lines_from g.F.NamedFormat.format (holds l.bank) (next_number l.run) (left l.run.window)) r
+    → Adds l.initial.out end (lines_from g.F.NamedFormat.format fresh (next_number l.initial.run) (left l.initial.run.window)) r
 
 -- the bytes that are left
 abbrev pub decreases-loop-next : goal.decreases-loop-next
-decreases-loop-next g l = length l.run.window.tape.now - l.run.window.at
+decreases-loop-next g l = length (left l.run.window)

@@ -1,48 +1,17 @@
-use Rattle.std.proofs.Common.{ℕ, List, ◌++◌, vec_items, vec_capacity, ap, ◌∙◌, subst, arith}
 use Rattle.std.proofs.lemmas.Result.{err_from_is_err_and}
-use Rattle.run.specs.States.{left}
-use Rattle.tape.specs.Added.{NoMemory, Adds}
-use Rattle.tape.specs.Printed.{run_lines}
-use Rattle.tape.proofs.Adding.{at_first, one_more, no_memory, adds_rest}
-use Rattle.tape.proofs.Openings.{opened_lines, refused_lines}
-use Rattle.tape.proofs.Taken.{wrote_taken}
+use Rattle.run.specs.States.{first}
+use Rattle.tape.specs.Printed.{lines_behind}
+use Rattle.tape.proofs.Adding.{wanting, adds_then}
+use Rattle.tape.proofs.Openings.{opened_lines}
 use Rattle.tape.proofs.print.print_run.Goals as goal
 
-pub returns-in_ok-add_line-in-Opened : goal.returns-in_ok-add_line-in-Opened
-returns-in_ok-add_line-in-Opened c =
-    let out = c.args.out.now in
-    let mid = c.add_line.new.out in
-    let (opened, opening_line) = c.in-Opened.ensures in
-    let lines = opened_lines c.args.run c.in-Opened.run' opened in
-    let line_is = wrote_taken opening_line.line in
-    let e = c.in_ok-add_line-in-Opened.ensures.adds ∙ ap (λ l. vec_items out ++ l) line_is in
-    let midway = one_more (at_first (vec_items out) (run_lines (left c.args.run.window))) _ _ (vec_items mid) lines e in
-    record {
-      adds = adds_rest midway (vec_capacity out) (vec_capacity mid) (vec_items c.print_opened.new.out) c.print_opened.result c.add_line.ensures.capacity c.print_opened.ensures.adds;
-      capacity = omega (arith, c.add_line.ensures.capacity, c.print_opened.ensures.capacity);
-    }
+pub returns-in-Running : goal.returns-in-Running
+returns-in-Running c =
+    let opened = rw c.in-Running.is at c.first_line-line.ensures.leads in
+    rw (opened_lines c.args.run c.in-Running.run' opened) (adds_then c.print_opened.result (rw c.first_line-line.ensures.line at c.in_ok-add_line.ensures) c.print_opened.ensures)
 
-pub returns-in_err-add_line-in-Opened : goal.returns-in_err-add_line-in-Opened
-returns-in_err-add_line-in-Opened c =
-    let out = c.args.out.now in
-    let (opened, opening_line) = c.in-Opened.ensures in
-    let lines = opened_lines c.args.run c.in-Opened.run' opened in
-    let line_is = wrote_taken opening_line.line in
-    let after = vec_items c.add_line.new.out in
+pub returns-in_err-add_line : goal.returns-in_err-add_line
+returns-in_err-add_line c =
     let p = err_from_is_err_and c.from_residual.result c.from_residual.ensures.1 in
-    record {
-      adds =
-          rw p.1 (no_memory (at_first (vec_items out) (run_lines (left c.args.run.window))) (vec_capacity out) (vec_capacity out) _ _ after (omega arith) lines (subst (NoMemory (vec_capacity out) (vec_items out) after) line_is c.in_err-add_line-in-Opened.ensures.adds));
-      capacity = c.add_line.ensures.capacity;
-    }
-
-pub returns-in-Ended : goal.returns-in-Ended
-returns-in-Ended c =
-    let out = c.args.out.now in
-    let after = vec_items c.add_line-in-Ended.new.out in
-    let (not_opened, opening_line) = c.in-Ended.ensures in
-    let only = wrote_taken opening_line.line ∙ refused_lines (left c.args.run.window) not_opened.refused in
-    record {
-      adds = subst (λ (text : List ℕ). Adds (vec_capacity out) (vec_items out) after text c.add_line-in-Ended.result) only c.add_line-in-Ended.ensures.adds;
-      capacity = c.add_line-in-Ended.ensures.capacity;
-    }
+    let t = c.args.run.tape.now in
+    rw p.1 (wanting (lines_behind t (first t)) (rw c.first_line-line.ensures.line at c.in_err-add_line.ensures))

@@ -1,23 +1,18 @@
-use Rattle.arith.specs.Format.{format_of}
-use Rattle.arith.proofs.Formats.{sound}
 use Rattle.bank.specs.Calls.{loaded}
 use Rattle.bank.specs.Views.{holds}
 use Rattle.bank.proofs.Loads.{refused_changes_nothing, others_unchanged, shown_again}
 use Rattle.bank.proofs.store.Bank.load.Goals as goal
 
-pub returns : goal.returns
-returns g c =
-    let f = format_of g.row.C in
-    let ps = holds c.args.self.now in
-    let qs = holds c.fill.new.self in
-    let d = c.args.place in
-    let m = c.args.re in
-    let n = c.args.im in
+pub returns-clause-refused_changes_nothing : goal.returns-clause-refused_changes_nothing
+returns-clause-refused_changes_nothing g c =
     let h = c.fill.ensures in
-    record {
-      answer = h.answer;
-      places = h.places;
-      refused_changes_nothing = refused_changes_nothing ps qs d (loaded f d m n) c.fill.result h.answer h.places;
-      others_unchanged = others_unchanged ps qs d (loaded f d m n) h.places;
-      shown_again = shown_again f (sound g.row.C) ps qs d m n c.fill.result h.answer h.places h.there;
-    }
+    refused_changes_nothing (holds c.args.self.now) (holds c.fill.new.self) c.args.place (loaded g.F.NamedFormat.format c.args.place c.args.re c.args.im) c.fill.result h.answer h.places
+
+pub returns-clause-others_unchanged : goal.returns-clause-others_unchanged
+returns-clause-others_unchanged g c =
+    others_unchanged (holds c.args.self.now) (holds c.fill.new.self) c.args.place (loaded g.F.NamedFormat.format c.args.place c.args.re c.args.im) c.fill.ensures.places
+
+pub returns-clause-shown_again : goal.returns-clause-shown_again
+returns-clause-shown_again g c =
+    let h = c.fill.ensures in
+    shown_again g.F.NamedFormat.format (holds c.args.self.now) (holds c.fill.new.self) c.args.place c.args.re c.args.im c.fill.result h.answer h.places h.there

@@ -1,4 +1,0 @@
-mod Fronts
-mod Printable
-mod Loads
-mod Questions

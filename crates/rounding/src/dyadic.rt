@@ -1,0 +1,20 @@
+// Exact values as the code holds them: whole numbers times powers of two, within limits.
+ghost use Rattle.std.specs.Prelude.{◌^◌, ◌<◌, pos, neg_ℤ, ◌≤ℤ◌, unsigned_abs};
+
+// The exact value whole · 2 ^ exponent, with at most DIGITS binary digits, and an exponent from −REACH to REACH.
+#[derive(Clone, Copy)]
+pub struct Dyadic<const DIGITS: u32, const REACH: u32> {
+    pub whole: i128,
+    pub exponent: i32,
+    ghost short: { unsigned_abs whole < 2 ^ DIGITS },
+    ghost low: { neg_ℤ (pos REACH) ≤ℤ exponent },
+    ghost high: { exponent ≤ℤ pos REACH },
+}
+
+// What an exact sum is made of: a number, or a product of two. Two significands of 24 digits have a product of 48; and the last
+// digits of numbers have exponents from −149 to 120, those of products twice that.
+pub type Addend = Dyadic<48, 300>;
+
+// What a rule is given. A sum of two addends that are at most 76 digits apart has 125 digits, and its exponent is that of an addend, or
+// 30 less.
+pub type Unrounded = Dyadic<126, 400>;

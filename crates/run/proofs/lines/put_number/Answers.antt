@@ -1,6 +1,0 @@
-use Rattle.std.proofs.Common.{rules}
-use Rattle.run.proofs.Writes.{wrote_then}
-use Rattle.run.proofs.lines.put_number.Goals as goal
-
-pub returns : goal.returns
-returns c = record { wrote = wrote_then c.put_byte-at.ensures c.put_decimal.ensures.wrote; bound = search rules }

@@ -1,8 +1,0 @@
-use Rattle.run.proofs.Writes.{wrote_then}
-use Rattle.run.proofs.lines.put_open.Goals as goal
-
-pub returns : goal.returns
-returns c =
-    wrote_then (rw c.word.ensures at c.put_start-at.ensures.wrote)
-    (wrote_then (rw c.code.ensures at c.put_number-at.ensures.wrote)
-    (wrote_then (rw c.code-2.ensures at c.put_number-at-2.ensures.wrote) c.put_byte.ensures))
