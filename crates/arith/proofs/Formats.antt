@@ -33,7 +33,7 @@ parted w p h k = ap (λ (z : ℕ). 2 ^ z) (places w p h k) ∙ pow-add 2 (w - p)
 
 module _ (f : Format) where
   exponent_bits : 0 < f.width - f.precision
-  exponent_bits = some_field (f.width - f.precision) f.emax f.exponent_field
+  exponent_bits = some_field (f.width - f.precision) f.emax f.fields_for_range
 
   pub significands : 2 ^ f.precision ≡ 2 * leading_one f
   significands = twice f.precision f.some_digit
@@ -61,7 +61,7 @@ module _ (f : Format) (q m : ℕ) (hq : q ≤ 2 * f.emax) (hm : m < 2 ^ f.precis
 
   field_small : q * one + leading_one f ≤ sign_place f
   field_small =
-      let h : suc q * leading_one f ≤ exponents f * leading_one f = mul-le-mul_right (leading_one f) (omega (arith, f.exponent_field)) in
+      let h : suc q * leading_one f ≤ exponents f * leading_one f = mul-le-mul_right (leading_one f) (omega (arith, f.fields_for_range)) in
       rw (one_is, unsigned f) (omega arith)
 
   rest_small : m - one < leading_one f

@@ -62,7 +62,7 @@ module _ (f : Format) (x : Parts) (some : 0 < x.significand) (short : x.signific
   encoded_is = cond-false (eqb x.significand 0) _ _ (not_zero x.significand some) ∙ placed x.negative (sign_place f) (q * leading_one f) t
 
   finite : q < exponents f - 1
-  finite = finite_field x.exponent f.emax low (exponents f) f.exponent_field high
+  finite = finite_field x.exponent f.emax low (exponents f) f.fields_for_range high
 
   field_fits : q < exponents f
   field_fits = below q (exponents f) finite

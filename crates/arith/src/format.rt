@@ -1,5 +1,5 @@
 // The formats, each by a name of its own, which is a type.
-ghost use Rattle.std.specs.Prelude.{◌≡◌, ◌+◌, ◌-◌, ◌*◌, ◌^◌, ◌<◌, ◌≤◌};
+ghost use Rattle.std.specs.Prelude.{◌≡◌, ◌+◌, ◌-◌, ◌*◌, ◌%◌, ◌^◌, ◌<◌, ◌≤◌};
 
 use rounding::Precision;
 
@@ -9,15 +9,16 @@ pub struct Format {
     pub precision: u32,
     pub emax: u32,
     pub width: u32,
-    // significands, exponents and patterns that the code's numbers hold
-    ghost some_digit: { 0 < precision },
-    ghost few_digits: { precision ≤ 24 },
-    ghost some_exponent: { 0 < emax },
-    ghost few_exponents: { emax ≤ 127 },
-    ghost few_bits: { width ≤ 32 },
+    // significands, exponents and patterns that the code's numbers hold; zero has the exponent 0; a pattern is whole bytes on a tape
+    pub ghost some_digit: { 0 < precision },
+    pub ghost few_digits: { precision ≤ 24 },
+    pub ghost zero_in_range: { 0 < emax },
+    pub ghost few_exponents: { emax ≤ 127 },
+    pub ghost few_bits: { width ≤ 32 },
+    pub ghost whole_bytes: { width % 8 ≡ 0 },
     // the bits that the sign and the fraction leave are the exponent field: it has a value for each exponent from 1 − emax to emax, and two
     // more
-    ghost exponent_field: { 2 ^ (width - precision) ≡ 2 * emax + 2 },
+    pub ghost fields_for_range: { 2 ^ (width - precision) ≡ 2 * emax + 2 },
 }
 
 impl From<Format> for Precision {

@@ -4,10 +4,12 @@ ghost use Rattle.std.specs.Prelude.{◌≡◌, ⊤, ◌*◌, ◌^◌, ◌<◌, �
 use crate::format::NamedFormat;
 use std::alloc::AllocError;
 use std::marker::PhantomData;
+use std::ops::Neg;
 
 // A number of the format F: zero, or plus or minus significand · 2 ^ (exponent − precision + 1).
 pub struct Number<F: NamedFormat> {
-    // the sign bit
+    // the sign bit: a number has a sign, a significand and an exponent, as its pattern has, and zero has no sign. As one signed number it
+    // would be taken apart again for each pattern.
     pub(crate) negative: bool,
     pub(crate) significand: u32,
     pub(crate) exponent: i32,
@@ -36,3 +38,45 @@ impl<F: NamedFormat> Clone for Number<F> {
 }
 
 impl<F: NamedFormat> Copy for Number<F> {}
+
+// The number with the other sign; zero stays as it is.
+impl<F: NamedFormat> Neg for Number<F> {
+    type Output = Number<F>;
+
+    ghost use Rattle.exact.specs.Exact.{negated};
+    ghost use Rattle.arith.specs.Number.{value_of};
+
+    ghost neg_gives = { λ x r. value_of r ≡ negated (value_of x) };
+
+    fn neg(self) -> Number<F> {
+        Number {
+            negative: self.significand > 0 && !self.negative,
+            significand: self.significand,
+            exponent: self.exponent,
+            format: PhantomData,
+        }
+    }
+}
+
+impl<F: NamedFormat> Number<F> {
+    ghost use Rattle.std.specs.Prelude.{unsigned_abs, negsuc, ◌+ℤ◌};
+    ghost use Rattle.exact.specs.Exact.{signed_by};
+
+    // The significand with the sign.
+    pub(crate) fn signed(self) -> i128
+        ensures value { result ≡ signed_by self.negative self.significand }
+        ensures short { unsigned_abs result < 2 ^ 24 }
+    {
+        let size = self.significand as i128;
+        if self.negative { -size } else { size }
+    }
+
+    // The exponent of the last digit, which lies well within −150 and 150 in every format.
+    pub(crate) fn last_exponent(self) -> i32
+        ensures value { result ≡ self.exponent +ℤ pos 1 -ℤ pos F.format.precision }
+        ensures low { negsuc 149 ≤ℤ result }
+        ensures high { result ≤ℤ pos 150 }
+    {
+        self.exponent + 1 - F::format().precision as i32
+    }
+}

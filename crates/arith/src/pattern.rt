@@ -18,6 +18,8 @@ pub enum PatternFault {
 }
 
 impl PatternFault {
+    // The refusal's number, by the name that it has in every layer; From for u8 would not say that it is that. Each enum has its own table, so
+    // the clause has the words of the others and a meaning of its own.
     pub fn number(self) -> u8
         ensures { result ≡ number_of_pattern self }
     {
@@ -28,7 +30,7 @@ impl PatternFault {
 // The fields of a pattern.
 #[derive(Clone, Copy)]
 struct Fields {
-    // the sign bit
+    // the sign bit, as it stands in the pattern
     negative: bool,
     exponent: u32,
     fraction: u32,
@@ -146,7 +148,7 @@ impl<F: NamedFormat> Number<F> {
         decode(pattern)
     }
 
-    // The pattern that shows the number.
+    // The pattern that shows the number. (It is no From for u32, which would not say that the number is written as a pattern.)
     pub fn pattern(self) -> u32
         ensures defined { result ≡ encoded F.format (parts_of self) }
         ensures read_back { decoded F.format result ≡ Ok (parts_of self) }

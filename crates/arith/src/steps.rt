@@ -17,8 +17,9 @@ use std::marker::PhantomData;
 fn round_and_judge<F: NamedFormat, R: Rule>(t: Unrounded) -> Result<Number<F>, RangeFault>
     ensures { parts_by result ≡ stepped F.format R.Rule.rn (exact_value t) }
 {
-    let (significand, exponent) = R::round(Precision::from(F::format()), t);
-    let emax = F::format().emax as i32;
+    let format = F::format();
+    let (significand, exponent) = R::round(Precision::from(format), t);
+    let emax = format.emax as i32;
     if significand == 0 {
         return Ok(Number::zero());
     }
@@ -36,8 +37,8 @@ fn round_and_judge<F: NamedFormat, R: Rule>(t: Unrounded) -> Result<Number<F>, R
     })
 }
 
-// The sum of two terms as a rule is given it. Each of this function and the next two is one call; what is promised of the call stands
-// here, apart from the steps' own laws, so that a must-fail edit of it fails in the code.
+// The sum of two terms as a rule is given it. This and the next two are one call each, and stand apart from the steps since a must-fail
+// edit of them has to fail here, and not at the proof of a step's laws.
 fn sum_of<F: NamedFormat>(x: Term<F>, y: Term<F>) -> Unrounded
     ensures { RoundsAs result (scaled_term x ⊞ scaled_term y) }
 {
@@ -52,7 +53,7 @@ fn difference_of<F: NamedFormat>(x: Term<F>, y: Term<F>) -> Unrounded
 }
 
 // A term alone, likewise.
-fn value_of<F: NamedFormat>(x: Term<F>) -> Unrounded
+fn unrounded_of<F: NamedFormat>(x: Term<F>) -> Unrounded
     ensures { exact_value result ≡ scaled_term x }
 {
     Unrounded::from(Addend::from(x))
@@ -72,7 +73,7 @@ pub fn step_term<F: NamedFormat, R: Rule>(x: Term<F>) -> Result<Number<F>, Range
     ensures rightly_rounded { RightlyRounded F.format (term_value x) (parts_by result) }
     ensures loss_has_precision { LossHasPrecision F.format (term_value x) (parts_by result) }
 {
-    round_and_judge::<F, R>(value_of(x))
+    round_and_judge::<F, R>(unrounded_of(x))
 }
 
 // One step on the sum of two terms.
@@ -84,8 +85,8 @@ pub fn step_sum<F: NamedFormat, R: Rule>(x: Term<F>, y: Term<F>) -> Result<Numbe
     round_and_judge::<F, R>(sum_of(x, y))
 }
 
-// One step on the difference of two terms. It is not made of step_sum(x, -y): that was tried, and the checker does not find the
-// third clause by itself.
+// One step on the difference of two terms. As step_sum(x, -y) it proves too, but only with an answer at which an edit that exchanges the
+// terms fails first, so the edit would not test the code.
 pub fn step_difference<F: NamedFormat, R: Rule>(
     x: Term<F>,
     y: Term<F>,

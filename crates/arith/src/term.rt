@@ -1,6 +1,5 @@
 // The terms of a step's sum, and their exact values as addends.
-ghost use Rattle.std.specs.Prelude.{◌≡◌, ◌^◌, ◌<◌, unsigned_abs, pos, negsuc, ◌+ℤ◌, ◌-ℤ◌, ◌*ℤ◌, ◌≤ℤ◌};
-ghost use Rattle.exact.specs.Exact.{negated, signed_by};
+ghost use Rattle.std.specs.Prelude.{◌≡◌};
 ghost use Rattle.rounding.specs.Values.{exact_value};
 ghost use Rattle.arith.specs.Number.{value_of};
 ghost use Rattle.arith.specs.Term.{scaled_term, scaled_product};
@@ -9,8 +8,6 @@ ghost use Rattle.arith.specs.declared.term.Term.TheVariants.{Number};
 use crate::format::NamedFormat;
 use crate::number::Number;
 use rounding::Addend;
-use std::marker::PhantomData;
-use std::ops::Neg;
 
 // What a step adds or subtracts: a number, or the exact product of two.
 #[derive(Clone, Copy)]
@@ -27,43 +24,7 @@ impl<F: NamedFormat> From<Number<F>> for Term<F> {
     }
 }
 
-// The number with the other sign; zero stays as it is.
-impl<F: NamedFormat> Neg for Number<F> {
-    type Output = Number<F>;
-
-    ghost neg_gives = { λ x r. value_of r ≡ negated (value_of x) };
-
-    fn neg(self) -> Number<F> {
-        Number {
-            negative: self.significand > 0 && !self.negative,
-            significand: self.significand,
-            exponent: self.exponent,
-            format: PhantomData,
-        }
-    }
-}
-
-impl<F: NamedFormat> Number<F> {
-    // The significand with the sign.
-    fn signed(self) -> i128
-        ensures value { result ≡ signed_by self.negative self.significand }
-        ensures short { unsigned_abs result < 2 ^ 24 }
-    {
-        let size = self.significand as i128;
-        if self.negative { -size } else { size }
-    }
-
-    // The exponent of the last digit, which lies well within −150 and 150 in every format.
-    fn last_exponent(self) -> i32
-        ensures value { result ≡ self.exponent +ℤ pos 1 -ℤ pos F.format.precision }
-        ensures low { negsuc 149 ≤ℤ result }
-        ensures high { result ≤ℤ pos 150 }
-    {
-        self.exponent + 1 - F::format().precision as i32
-    }
-}
-
-// A number as an addend.
+// A number as an addend, and the exact product of two: the arms of the conversion below, each with its own promise.
 fn single<F: NamedFormat>(x: Number<F>) -> Addend
     ensures { exact_value result ≡ value_of x }
 {
@@ -73,7 +34,6 @@ fn single<F: NamedFormat>(x: Number<F>) -> Addend
     }
 }
 
-// The exact product of two numbers as an addend.
 fn product<F: NamedFormat>(x: Number<F>, y: Number<F>) -> Addend
     ensures { exact_value result ≡ scaled_product x y }
 {

@@ -1,6 +1,5 @@
--- What a load leaves: a refused one nothing, an accepted one its own place, which then shows what was loaded.
-use Rattle.std.proofs.Common.{◌≡◌, ℕ, ◌<◌, Bool, true, false, cond, ltb, List, length, get_or, set, is_err, IfOk, Ok, Err, Result, sym, refl, ap, ◌∙◌, subst, ap₂, get_or-set_other, get_or-set_same}
-use borrow.Author.Tests.{clash}
+-- What a load leaves in its place is shown again.
+use Rattle.std.proofs.Common.{◌≡◌, ℕ, ◌<◌, Bool, true, false, cond, ltb, List, length, get_or, set, IfOk, Ok, Err, Result, sym, refl, ap, ◌∙◌, subst, ap₂, get_or-set_same}
 use Rattle.std.specs.Result.{result_map_both}
 use Rattle.exact.specs.Parts.{Parts}
 use Rattle.arith.specs.Pattern.{decoded, encoded, plain_zero}
@@ -15,21 +14,6 @@ use Rattle.bank.specs.Calls.{loaded, told, written, shown_of, shown, patterns}
 use Rattle.bank.specs.declared.fault.Fault.{Fault}
 use Rattle.bank.specs.declared.fault.Fault.TheVariants.{NoSuchPlace, Pattern}
 use Rattle.bank.specs.declared.store.Shown.{Shown}
-
-unwritten : (ps : List Slot) (d : ℕ) (r : Result Slot Fault) → is_err (told r) ≡ true → written ps d r ≡ ps
-unwritten ps d (Ok s) e = absurd (clash e)
-unwritten ps d (Err x) e = refl
-
-elsewhere : (ps : List Slot) (d : ℕ) (r : Result Slot Fault) (k : ℕ) → (k ≡ d → ⊥) → get_or (written ps d r) k empty ≡ get_or ps k empty
-elsewhere ps d (Ok s) k h = rw get_or-set_other
-elsewhere ps d (Err x) k h = refl
-
--- of the answer a and the places qs that a call leaves
-pub refused_changes_nothing : (ps qs : List Slot) (d : ℕ) (r : Result Slot Fault) (a : Result (Unit {0}) Fault) → a ≡ told r → qs ≡ written ps d r → is_err a ≡ true → qs ≡ ps
-refused_changes_nothing ps qs d r a ea eq e = eq ∙ unwritten ps d r (sym (ap is_err ea) ∙ e)
-
-pub others_unchanged : (ps qs : List Slot) (d : ℕ) (r : Result Slot Fault) → qs ≡ written ps d r → (k : ℕ) → (k ≡ d → ⊥) → get_or qs k empty ≡ get_or ps k empty
-others_unchanged ps qs d r eq k h = ap (λ l. get_or l k empty) eq ∙ elsewhere ps d r k h
 
 module _ (f : Format) where
   encoded_again : (n : ℕ) (x : Parts) → decoded f n ≡ Ok x → encoded f x ≡ plain_zero f n

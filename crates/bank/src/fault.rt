@@ -16,6 +16,7 @@ pub enum Fault {
     Pattern(PatternFault),
 }
 
+// By hand, since a derived conversion would not say which fault it makes.
 impl From<PatternFault> for Fault {
     ghost from_gives = { λ e r. r ≡ Pattern e };
 
@@ -25,7 +26,7 @@ impl From<PatternFault> for Fault {
 }
 
 impl Fault {
-    // The number that a refusal is known by. An enum with a field has no discriminants that could be it.
+    // The refusal's number, by the name that it has in every layer; From for u8 would not say that it is that. An enum with a field has no discriminants that could be it.
     pub fn number(self) -> u8
         ensures { result ≡ number_of self }
     {

@@ -1,9 +1,10 @@
 // The bank and its calls.
-ghost use Rattle.std.specs.Prelude.{◌≡◌, ℕ, ◌<◌, true, length, is_err, Ok, OnOk, ◌≢◌, slice_index_or, slice_set};
+ghost use Rattle.std.specs.Prelude.{◌≡◌, ℕ, ◌<◌, true, false, nat_lt, MatchResult, length, is_err, Ok, OnOk, ◌≢◌, slice_index_or, slice_set};
 ghost use Rattle.arith.specs.Pattern.{plain_zero};
 ghost use Rattle.bank.specs.Slots.{empty, fresh};
 ghost use Rattle.bank.specs.Calls.{loaded, told, written, shown, patterns};
 ghost use Rattle.bank.specs.Views.{holds, slot};
+ghost use Rattle.bank.specs.declared.fault.Fault.TheVariants.{NoSuchPlace};
 
 use crate::fault::Fault;
 use crate::place::{Depth, Held};
@@ -21,6 +22,16 @@ pub struct Shown {
 #[derive(Drop)]
 pub struct Bank<F: NamedFormat> {
     places: [Option<Held<F>>; 16],
+}
+
+// Whether there is such a place.
+fn check_place(place: u8) -> Result<(), Fault>
+    ensures { MatchResult result (λ _. nat_lt 15 place ≡ false) (λ e. (nat_lt 15 place ≡ true) × (e ≡ NoSuchPlace)) }
+{
+    if place > 15 {
+        return Err(Fault::NoSuchPlace);
+    }
+    Ok(())
 }
 
 impl<F: NamedFormat> Bank<F> {
@@ -54,9 +65,7 @@ impl<F: NamedFormat> Bank<F> {
         ensures places { holds self.new ≡ written (holds self.old) place (loaded F.format place re im) }
         ensures there { OnOk result (place < length (holds self.old)) }
     {
-        if place > 15 {
-            return Err(Fault::NoSuchPlace);
-        }
+        check_place(place)?;
         let re = Number::from_pattern(re)?;
         let im = Number::from_pattern(im)?;
         let number = Complex { re, im };
@@ -65,7 +74,8 @@ impl<F: NamedFormat> Bank<F> {
         Ok(())
     }
 
-    // Puts the number of two patterns into a place with depth 0.
+    // Puts the number of two patterns into a place with depth 0. They are two patterns and no complex number, since each has its own refusal,
+    // and they make a number only where both can be read.
     pub fn load(&mut self, place: u8, re: u32, im: u32) -> Result<(), Fault>
         ensures answer { result ≡ told (loaded F.format place re im) }
         ensures places { holds self.new ≡ written (holds self.old) place (loaded F.format place re im) }
@@ -80,9 +90,7 @@ impl<F: NamedFormat> Bank<F> {
     pub fn show(&self, place: u8) -> Result<Shown, Fault>
         ensures { result ≡ shown F.format (holds self.now) place }
     {
-        if place > 15 {
-            return Err(Fault::NoSuchPlace);
-        }
+        check_place(place)?;
         let held = self.at(place).ok_or(Fault::EmptyPlace)?;
         Ok(Shown {
             re: held.number.re.pattern(),

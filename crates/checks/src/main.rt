@@ -38,6 +38,13 @@ fn tape_of(heap: Global, text: &[u8]) -> Result<Option<Vec<u8>>, AllocError> {
     Ok(high.is_none().then_some(tape))
 }
 
+// The lines of a tape.
+fn lines_of(heap: Global, tape: &[u8]) -> Result<Vec<u8>, AllocError> {
+    let mut lines = Vec::new(heap);
+    tape::print_tape(tape, &mut lines)?;
+    Ok(lines)
+}
+
 // Whether a tape prints what it should.
 fn check_tape(rt: &HostRuntime, name: &str) -> io::Result<()> {
     let heap = rt.alloc();
@@ -46,8 +53,7 @@ fn check_tape(rt: &HostRuntime, name: &str) -> io::Result<()> {
     let Some(tape) = tape_of(heap, text.as_slice())? else {
         return println!(rt; "{name}: not hexadecimal");
     };
-    let mut lines = Vec::new(heap);
-    tape::print_tape(tape.as_slice(), &mut lines)?;
+    let lines = lines_of(heap, tape.as_slice())?;
     if lines.as_slice() == wanted.as_slice() {
         return println!(rt; "{name}: ok");
     }
@@ -61,15 +67,12 @@ fn check_length(rt: &HostRuntime, behind: &[u8]) -> io::Result<()> {
     let mut tape = Vec::new(heap);
     tape.extend_from_slice(&[2, 0, 1, 0, 1, 1])?;
     tape.extend_from_slice(&[0xF2, 0xFF, 7, 0])?;
-    for _ in 0..0xFFF2 {
-        tape.push(b' ')?;
-    }
+    tape.resize(tape.len() + 0xFFF2, b' ')?;
     tape.extend_from_slice(&[0, 0, 8, 0])?;
     tape.extend_from_slice(behind)?;
     let bytes = tape.len();
     println!(rt; "a tape of {bytes} bytes:")?;
-    let mut lines = Vec::new(heap);
-    tape::print_tape(tape.as_slice(), &mut lines)?;
+    let lines = lines_of(heap, tape.as_slice())?;
     rt.stdout().write_all(lines.as_slice())
 }
 
@@ -82,14 +85,11 @@ fn check_many(rt: &HostRuntime) -> io::Result<()> {
         tape.extend_from_slice(&[0, 0, 7, 0])?;
     }
     tape.extend_from_slice(&[0, 0, 8, 0])?;
-    let mut lines = Vec::new(heap);
-    tape::print_tape(tape.as_slice(), &mut lines)?;
+    let lines = lines_of(heap, tape.as_slice())?;
     let bytes = lines.len();
     println!(rt; "16381 notes: {bytes} bytes of lines, which end with")?;
-    for b in lines.iter().copied().skip(bytes.saturating_sub(10)) {
-        rt.stdout().write_all(&[b])?;
-    }
-    Ok(())
+    rt.stdout()
+        .write_all(&lines.as_slice()[bytes.saturating_sub(10)..])
 }
 
 // Patterns that do not fit a format's bits, which no tape can carry.

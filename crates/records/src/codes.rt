@@ -28,7 +28,8 @@ pub struct Codes {
     pub method: MethodCode,
 }
 
-// The two tables stay apart: a shared text would be a search in a list of the variants, which is longer than a match.
+// These two tables, and the one of kinds, stay apart: a shared text would need a list of the variants beside each enum, as long as the arms of
+// its match, and a search in it.
 impl TryFrom<u8> for FormatCode {
     type Error = RecordFault;
 

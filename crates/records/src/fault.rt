@@ -18,7 +18,8 @@ pub enum RecordFault {
 }
 
 impl RecordFault {
-    // The number that the refusal is known by.
+    // The refusal's number, by the name that it has in every layer; From for u8 would not say that it is that. Each enum has its own table, so
+    // the clause has the words of the others and a meaning of its own.
     pub fn number(self) -> u8
         ensures { result ≡ number_of self }
     {

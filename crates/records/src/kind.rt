@@ -1,20 +1,19 @@
 // The kinds of records.
-ghost use Rattle.std.specs.Prelude.{◌≡◌, Some};
+ghost use Rattle.std.specs.Prelude.{◌≡◌};
 ghost use Rattle.records.specs.Kinds.{kind_of, word_of};
 
 use crate::fault::RecordFault;
-use std::fmt;
 
-// Each kind has a code.
 #[derive(Clone, Copy, Debug, PartialEq, Eq)]
 pub enum Kind {
-    Open = 1,
-    Load = 2,
-    Show = 6,
-    Note = 7,
-    End = 8,
+    Open,
+    Load,
+    Show,
+    Note,
+    End,
 }
 
+// A table of its own, as codes.rt says.
 impl TryFrom<u16> for Kind {
     type Error = RecordFault;
 
@@ -44,13 +43,5 @@ impl Kind {
             Kind::Note => "note",
             Kind::End => "end",
         }
-    }
-}
-
-impl fmt::Display for Kind {
-    ghost output = { λ kind. Some (word_of kind) };
-
-    fn fmt<W: fmt::Write>(&self, f: &mut fmt::Formatter<W>) -> fmt::Result {
-        f.write_str(self.word())
     }
 }

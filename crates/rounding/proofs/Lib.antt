@@ -1,4 +1,3 @@
 pub mod Wholes
-pub mod Cut
 pub mod ByCases
 pub mod Sums

@@ -18,7 +18,7 @@ use crate::precision::Precision;
 pub trait Rule {
     ghost rn: { ℕ → Exact → Parts };
 
-    // The significand and the exponent; the sign is that of t.
+    // The significand and the exponent, a pair that a step takes apart at once; the sign is that of t.
     fn round(p: Precision, t: Unrounded) -> (u32, i32)
         ensures { parts (is_negative t.whole) result.0 result.1 ≡ rn p.bits (exact_value t) };
 

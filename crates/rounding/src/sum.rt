@@ -1,12 +1,13 @@
 // Exact sums of one or two addends, as far as any rounding to at most 24 digits can tell.
 ghost use Rattle.std.specs.Prelude.{◌≡◌, ◌+◌, ◌^◌, ◌<◌, unsigned_abs, ◌*ℤ◌, pos, ◌+ℤ◌, ◌≤ℤ◌, ◌≢◌};
 ghost use Rattle.std.specs.Int.{int_signum};
-ghost use Rattle.exact.specs.Exact.{◌≈◌, ◌⊞◌, ◌⊟◌, negated, two^, is_negative};
+ghost use Rattle.exact.specs.Exact.{◌≈◌, ◌⊞◌, ◌⊟◌, two^};
 ghost use Rattle.rounding.specs.Values.{exact_value, RoundsAs};
 
-use crate::dyadic::{Addend, Dyadic, Unrounded};
+use crate::dyadic::{Addend, Unrounded};
 
-// x moved up by so many places, and y. With 48 digits each and at most 76 places, the sum has at most 125 digits.
+// x moved up by so many places, and y. With 48 digits each and at most 76 places, the sum has at most 125 digits. It is moved by a power
+// and not by a shift, whose contract speaks of bits.
 fn moved_sum(x: i128, places: u32, y: i128) -> i128
     requires left { unsigned_abs x < 2 ^ 48 }
     requires right { unsigned_abs y < 2 ^ 48 }
@@ -53,7 +54,8 @@ fn far(x: Addend, y: Addend) -> Unrounded
     }
 }
 
-// The sum, in either order, where the exponent of x is not the smaller one.
+// The sum, in either order, where the exponent of x is not the smaller one. (The clauses are those of the sum itself, since that is what
+// each of its cases promises.)
 fn descending(x: Addend, y: Addend) -> Unrounded
     requires { y.exponent ≤ℤ x.exponent }
     ensures forward { RoundsAs result (exact_value x ⊞ exact_value y) }
@@ -68,38 +70,6 @@ fn descending(x: Addend, y: Addend) -> Unrounded
         Unrounded::from(y)
     } else {
         far(x, y)
-    }
-}
-
-impl From<Addend> for Unrounded {
-    ghost from_gives = { λ x t. exact_value t ≡ exact_value x };
-
-    fn from(x: Addend) -> Unrounded {
-        Unrounded {
-            whole: x.whole,
-            exponent: x.exponent,
-        }
-    }
-}
-
-impl<const DIGITS: u32, const REACH: u32> Dyadic<DIGITS, REACH> {
-    // Whether the value is below zero.
-    pub fn is_negative(self) -> bool
-        ensures { result ≡ is_negative self.entry.whole }
-    {
-        self.whole < 0
-    }
-}
-
-impl Addend {
-    // The addend with the other sign; zero stays as it is.
-    pub fn negated(self) -> Addend
-        ensures { exact_value result ≡ negated (exact_value self) }
-    {
-        Addend {
-            whole: -self.whole,
-            exponent: self.exponent,
-        }
     }
 }
 
@@ -120,6 +90,6 @@ impl Unrounded {
     pub fn difference(x: Addend, y: Addend) -> Unrounded
         ensures { RoundsAs result (exact_value x ⊟ exact_value y) }
     {
-        Unrounded::sum(x, y.negated())
+        Unrounded::sum(x, -y)
     }
 }

@@ -22,6 +22,7 @@ impl Model for Line {
     ghost view = { λ l. l.text.items };
 }
 
+// By hand, for the reason given at Line.
 fn hex_digit(d: u8) -> u8
     requires { d < 16 }
     ensures { result ≡ hex_digit d }
@@ -45,6 +46,7 @@ impl Line {
         line
     }
 
+    // Each of the writers asks for room for what it puts in. No type says it, since each needs another number of bytes.
     fn push(&mut self, byte: u8)
         requires { length self.old + 1 ≤ 96 }
         ensures { self.new ≡ self.old ++ byte ∷ [] }

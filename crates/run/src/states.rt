@@ -4,22 +4,23 @@ ghost use Rattle.std.specs.Prelude.{◌≤◌, length};
 use crate::refusal::Refusal;
 use records::Codes;
 
-// The tape as it was lent, the place reached on it, and the number of the last record.
+// The tape as it was lent, the place reached on it, and the number of the last record. It is a tape and a place, and not the bytes that
+// are left, since a run promises to keep the tape as it was lent.
 #[derive(Drop)]
 pub struct Window<'a> {
     pub(crate) tape: &'a [u8],
     pub(crate) at: usize,
     pub(crate) number: u32,
-    ghost short: { length tape.now ≤ 65536 },
-    ghost within: { at ≤ length tape.now },
-    ghost counted: { number ≤ at },
+    pub ghost short: { length tape.now ≤ 65536 },
+    pub ghost within: { at ≤ length tape.now },
+    pub ghost counted: { number ≤ at },
 }
 
 // No record was read yet from the tape, as it was lent.
 #[derive(Drop)]
 pub struct FreshRun<'a> {
     pub(crate) tape: &'a [u8],
-    ghost short: { length tape.now ≤ 65536 },
+    pub ghost short: { length tape.now ≤ 65536 },
 }
 
 // The opening record was accepted, with these codes.
@@ -35,7 +36,7 @@ pub struct EndedRun {
     pub(crate) records: u32,
 }
 
-// Where a record leads a run.
+// Where a record leads a run. It has the shape of a Result and is none: a run that has ended is no error, and `?` is for refusals.
 #[derive(Drop)]
 pub enum AfterRecord<'a> {
     Running(OpenedRun<'a>),

@@ -109,7 +109,9 @@ impl<'a> FreshRun<'a> {
         }
     }
 
-    // The same, with the line in a lent buffer: where the record leads, and how long its line is.
+    // Opens the run with its first record's line in a lent buffer: where the record leads, and how long its line is. The buffer is the
+    // caller's, since a run has no memory of its own. (Room, line, writing: three calls here, in take_record and in Refused::write. One
+    // function over them would take the line as a closure, and be no shorter.)
     pub fn open(self, buffer: &mut [u8]) -> Result<(AfterRecord<'a>, usize), NoRoom<FreshRun<'a>>>
         ensures { Opens self.entry buffer.old buffer.new result }
     {
@@ -154,7 +156,7 @@ impl<'a> OpenedRun<'a> {
         }
     }
 
-    // The same, with the line in a lent buffer: where the record leads, and how long its line is.
+    // Takes the next record with its line in a lent buffer: where the record leads, and how long its line is.
     pub fn take_record<F: NamedFormat>(
         self,
         bank: &mut Bank<F>,
@@ -165,7 +167,8 @@ impl<'a> OpenedRun<'a> {
     {
         let run = with_room(self, buffer)?;
         let (next, line) = run.next_line(bank);
-        Ok((next, line.write(buffer)))
+        let length = line.write(buffer);
+        Ok((next, length))
     }
 }
 

@@ -2,7 +2,7 @@
 // of the answers, and many of binary32 against the machine's own floats.
 #![tactic(auto)]
 
-use arith::{Bfloat16, Binary16, Binary32, Complex, NamedFormat, Number, StepFault};
+use arith::{Bfloat16, Binary16, Binary32, Complex, NamedFormat, Number, RangeFault, StepFault};
 use buyer::{TiesUpward, ToOdd};
 use rounding::{AwayFromZero, Nearest, Rule, ToEven, TowardZero};
 use std::io;
@@ -89,8 +89,13 @@ fn near(n: u32, unused: u32) -> (u32, u32) {
     )
 }
 
-// The checksum of sums and differences by one rule in one format, which has this code.
-fn check_many<F: NamedFormat, R: Rule>(rt: &HostRuntime, code: u8, rule: &str) -> io::Result<()> {
+// The checksum of sums and differences by one rule in one format. It is a loop, since a fold would carry the checksum and the count as a
+// pair.
+fn check_many<F: NamedFormat, R: Rule>(
+    rt: &HostRuntime,
+    format: &str,
+    rule: &str,
+) -> io::Result<()> {
     let unused = 32 - F::format().width;
     let mut sum = 0u32;
     let mut answers = 0u32;
@@ -103,16 +108,16 @@ fn check_many<F: NamedFormat, R: Rule>(rt: &HostRuntime, code: u8, rule: &str) -
             answers = answers.wrapping_add(2);
         }
     }
-    println!(rt; "format {code}, {rule}: {answers} answers, checksum {sum}")
+    println!(rt; "{format}, {rule}: {answers} answers, checksum {sum}")
 }
 
-// The same for every rule.
-fn check_rules<F: NamedFormat>(rt: &HostRuntime, code: u8) -> io::Result<()> {
-    check_many::<F, Nearest<ToEven>>(rt, code, "ties to even")?;
-    check_many::<F, Nearest<AwayFromZero>>(rt, code, "ties away from zero")?;
-    check_many::<F, Nearest<TowardZero>>(rt, code, "ties toward zero")?;
-    check_many::<F, Nearest<ToOdd>>(rt, code, "ties to odd")?;
-    check_many::<F, TiesUpward>(rt, code, "ties upward")
+// The same for every rule: types cannot be gone through by a loop.
+fn check_rules<F: NamedFormat>(rt: &HostRuntime, format: &str) -> io::Result<()> {
+    check_many::<F, Nearest<ToEven>>(rt, format, "ties to even")?;
+    check_many::<F, Nearest<AwayFromZero>>(rt, format, "ties away from zero")?;
+    check_many::<F, Nearest<TowardZero>>(rt, format, "ties toward zero")?;
+    check_many::<F, Nearest<ToOdd>>(rt, format, "ties to odd")?;
+    check_many::<F, TiesUpward>(rt, format, "ties upward")
 }
 
 // A pattern of binary32 as a float of the machine, if it is finite.
@@ -123,43 +128,38 @@ fn float(pattern: u32) -> Option<f32> {
     Some(f32::from_bits(pattern))
 }
 
-// What the machine's floats make of a sum in binary32: the pattern, with zero as zero bits only, or 6 or 7.
-fn machine_sum(a: u32, b: u32) -> Option<u32> {
+// What the machine's floats make of a sum in binary32: the pattern, with zero as zero bits only, or a refusal.
+fn machine_sum(a: u32, b: u32) -> Option<Result<u32, RangeFault>> {
     let sum = float(a)? + float(b)?;
     if sum.is_nan() {
         None
-    } else if sum == f32::INFINITY || sum == f32::NEG_INFINITY {
-        Some(6)
+    } else if sum.is_infinite() {
+        Some(Err(RangeFault::Above))
     } else if sum == 0.0 {
-        Some(0)
-    } else if sum < f32::MIN_POSITIVE && sum > -f32::MIN_POSITIVE {
-        Some(7)
+        Some(Ok(0))
+    } else if sum.abs() < f32::MIN_POSITIVE {
+        Some(Err(RangeFault::Below))
     } else {
-        Some(sum.to_bits())
+        Some(Ok(sum.to_bits()))
     }
 }
 
-// What a step makes of it.
-fn step_sum(a: Number<Binary32>, b: Number<Binary32>) -> u32 {
-    match arith::step_sum::<Binary32, Nearest<ToEven>>(a.into(), b.into()) {
-        Ok(sum) => sum.pattern(),
-        Err(fault) => fault.number().into(),
-    }
+// Whether a step makes the same of a sum as the machine's floats, if both patterns stand for numbers.
+fn agrees(n: u32) -> Option<bool> {
+    let (a, b) = near(n, 0);
+    let x = Number::<Binary32>::from_pattern(a).ok()?;
+    let y = Number::<Binary32>::from_pattern(b).ok()?;
+    let sum = arith::step_sum::<Binary32, Nearest<ToEven>>(x.into(), y.into());
+    Some(machine_sum(a, b) == Some(sum.map(|x| x.pattern())))
 }
 
-// Sums in binary32 by the rule of the machine's floats.
+// Sums in binary32 by the rule of the machine's floats: gone through twice, so that each count is one chain.
 fn check_machine(rt: &HostRuntime) -> io::Result<()> {
-    let mut compared = 0u32;
-    let mut different = 0u32;
-    for n in 0..20000u32 {
-        let (a, b) = near(n, 0);
-        if let (Ok(x), Ok(y)) = (Number::from_pattern(a), Number::from_pattern(b)) {
-            compared = compared.wrapping_add(1);
-            if machine_sum(a, b) != Some(step_sum(x, y)) {
-                different = different.wrapping_add(1);
-            }
-        }
-    }
+    let compared = (0..20000u32).filter_map(agrees).count();
+    let different = (0..20000u32)
+        .filter_map(agrees)
+        .filter(|same| !*same)
+        .count();
     println!(rt;
         "sums of binary32 against the machine's floats: {compared} compared, {different} different"
     )
@@ -177,8 +177,8 @@ fn main(rt: HostRuntime) -> io::Result<()> {
     ] {
         check_worked(&rt, a, b)?;
     }
-    check_rules::<Binary16>(&rt, 1)?;
-    check_rules::<Bfloat16>(&rt, 2)?;
-    check_rules::<Binary32>(&rt, 3)?;
+    check_rules::<Binary16>(&rt, "format 1")?;
+    check_rules::<Bfloat16>(&rt, "format 2")?;
+    check_rules::<Binary32>(&rt, "format 3")?;
     check_machine(&rt)
 }

@@ -48,7 +48,7 @@ fn print_records<F: NamedFormat>(run: OpenedRun<'_>, out: &mut Vec<u8>) -> Resul
     Ok(())
 }
 
-// The same, with a bank of the format that the run was opened with.
+// Prints the records of an opened run with a bank of its format. A value cannot choose a type but by a match like this one.
 fn print_opened(run: OpenedRun<'_>, out: &mut Vec<u8>) -> Result<(), AllocError>
     ensures { Adds out.old out.new (lines_from (format_in run.entry.codes) fresh (next_number run.entry) (left run.entry.window)) result }
 {

@@ -6,12 +6,7 @@ use Rattle.rounding.specs.Values.{exact_value}
 use Rattle.arith.proofs.Range.{formed}
 use Rattle.arith.proofs.steps.round_and_judge.Goals as goal
 
-pub invariant_of-result-clause-short : goal.invariant_of-result-clause-short
-invariant_of-result-clause-short g c =
-    let m = c.round-significand.result in
-    (formed g.F.NamedFormat.format.precision c.from.result.bits g.R.Rule.rn g.met.R.Rule.rounds (exact_value c.args.t) (parts (is_negative c.args.t.whole) m.0 m.1) c.from.result.some (c.from.ensures ∙ ap (λ f. f.precision) c.format.ensures) c.round-significand.ensures).short
-
 pub invariant_of-result-clause-full : goal.invariant_of-result-clause-full
 invariant_of-result-clause-full g c =
     let m = c.round-significand.result in
-    (formed g.F.NamedFormat.format.precision c.from.result.bits g.R.Rule.rn g.met.R.Rule.rounds (exact_value c.args.t) (parts (is_negative c.args.t.whole) m.0 m.1) c.from.result.some (c.from.ensures ∙ ap (λ f. f.precision) c.format.ensures) c.round-significand.ensures).full
+    (formed g.F.NamedFormat.format.precision c.from.result.bits g.R.Rule.rn g.met.R.Rule.rounds (exact_value c.args.t) (parts (is_negative c.args.t.whole) m.0 m.1) c.from.result.some (c.from.ensures ∙ ap (λ f. f.precision) c.format-format.ensures) c.round-significand.ensures).full

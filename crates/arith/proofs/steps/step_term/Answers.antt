@@ -15,8 +15,8 @@ returns g c =
     let rn = g.R.Rule.rn in
     let r = parts_by c.round_and_judge.result in
     let x = c.args.x in
-    let t = exact_value c.value_of.result in
-    let h = same_alike 24 t (term_value x) (subst (λ (z : Exact). z ≈ term_value x) (sym c.value_of.ensures) (term_value_lem g.F.NamedFormat x)) in
+    let t = exact_value c.unrounded_of.result in
+    let h = same_alike 24 t (term_value x) (subst (λ (z : Exact). z ≈ term_value x) (sym c.unrounded_of.ensures) (term_value_lem g.F.NamedFormat x)) in
     let a = answers f rn g.met.R.Rule.rounds t (term_value x) h r c.round_and_judge.ensures in
     record {
       defined = a.defined;

@@ -5,9 +5,6 @@ use Rattle.exact.specs.Parts.{canonical}
 use Rattle.exact.specs.Ties.{round_whole}
 use Rattle.bank.proofs.rows.worked_rows.Goals as goal
 
-pub returns : goal.returns
+pub returns-clause-all_stand : goal.returns-clause-all_stand
 unfolding canonical round_whole size span climb
-returns c = record {
-  counted = c.row_count.ensures;
-  all_stand = (refl, (refl, (refl, (refl, (refl, (refl, (refl, (refl, (refl, (refl, (refl, (refl, (refl, (refl, (refl, (refl, (refl, (refl, (refl, (refl, (refl, (refl, tt))))))))))))))))))))));
-}
+returns-clause-all_stand c = (refl, (refl, (refl, (refl, (refl, (refl, (refl, (refl, (refl, (refl, (refl, (refl, (refl, (refl, (refl, (refl, (refl, (refl, (refl, (refl, (refl, (refl, tt))))))))))))))))))))))

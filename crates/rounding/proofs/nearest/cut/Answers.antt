@@ -1,14 +1,10 @@
+-- The quotient has at most 24 digits.
 use Rattle.std.proofs.Common.{arith}
-use Rattle.rounding.proofs.Cut.{quotient_small, picked}
+use Rattle.std.proofs.lemmas.Nat.{shr_below}
 use Rattle.rounding.proofs.nearest.cut.Goals as goal
 
 pub overflow_cast-q-2 : goal.overflow_cast-q-2
-overflow_cast-q-2 g c = record { fits = omega (arith, quotient_small c.args.n c.args.k c.ranges.n.fits c.requires.some c.requires.few c.requires.short) }
+overflow_cast-q-2 g c = record { fits = omega (arith, shr_below c.args.n 24 c.args.k c.requires.short) }
 
 pub nearer-requires : goal.nearer-requires
-nearer-requires g c = quotient_small c.args.n c.args.k c.ranges.n.fits c.requires.some c.requires.few c.requires.short
-
-pub returns : goal.returns
-returns g c =
-    let e = c.nearer.ensures in
-    picked c.args.n c.args.k c.ranges.n.fits c.requires.some c.requires.few c.requires.short g.T.TieBreak.upper c.nearer.result e.below e.above e.midway
+nearer-requires g c = shr_below c.args.n 24 c.args.k c.requires.short
