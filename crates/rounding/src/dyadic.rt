@@ -13,8 +13,8 @@ pub struct Dyadic<const DIGITS: u32, const REACH: u32> {
     ghost high: { exponent ≤ℤ pos REACH },
 }
 
-// What an exact sum is made of: a number, or a product of two. Two significands of 24 digits have a product of 48; and the last
-// digits of numbers have exponents from −149 to 120, those of products twice that.
+// What an exact sum is made of: a number, or a product of two. Two significands of 24 digits have a product of 48. With exponents from
+// −126 to 127 and 1 to 24 digits, the last digits of numbers have exponents from −149 to 127, those of products twice that.
 pub type Addend = Dyadic<48, 300>;
 
 // What a rule is given. A sum of two addends that are at most 76 digits apart has 125 digits, and its exponent is that of an addend, or

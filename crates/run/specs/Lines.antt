@@ -58,6 +58,7 @@ done_fields f (shown_at d s) =
 done_fields f (noted t) = text_field t
 done_fields f ended = []
 
+-- the line of a record behind it, in a format
 abbrev pub done_line : Format → ℕ → Done → List ℕ
 done_line f n d = start n (done_word d) ++ (done_fields f d ++ newline)
 

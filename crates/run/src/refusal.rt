@@ -34,7 +34,8 @@ impl From<Fault> for Refusal {
 }
 
 impl Refusal {
-    // The refusal's number, by the name that it has in every layer; From for u8 would not say that it is that. An enum with fields has no discriminants that could be it.
+    // The refusal's number, by the name that it has in every layer; From for u8 would not say that it is that. An enum with fields has no
+    // discriminants that could be it.
     pub fn number(self) -> u8
         ensures { result ≡ number_of self }
     {
