@@ -21,6 +21,21 @@ pub struct Format {
     pub ghost fields_for_range: { 2 ^ (width - precision) ≡ 2 * emax + 2 },
 }
 
+impl Format {
+    ghost use Rattle.arith.specs.Format.{format_of};
+
+    // The format of a code: 1 is binary16, 2 is bfloat16; any other code stands for binary32, whose own code is 3.
+    pub fn of_code(code: u8) -> Format
+        ensures { result ≡ format_of code }
+    {
+        match code {
+            1 => Binary16::format(),
+            2 => Bfloat16::format(),
+            _ => Binary32::format(),
+        }
+    }
+}
+
 impl From<Format> for Precision {
     ghost from_gives = { λ f p. p.bits ≡ f.precision };
 

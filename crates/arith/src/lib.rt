@@ -9,6 +9,7 @@ mod complex_sums;
 mod fault;
 mod format;
 mod number;
+mod of_format;
 mod pattern;
 mod steps;
 mod term;

@@ -2,6 +2,7 @@
 ghost use Rattle.std.specs.Prelude.{◌≡◌, ⊤, ◌*◌, ◌^◌, ◌<◌, ◌≤◌, false, pos, ◌-ℤ◌, ◌≤ℤ◌};
 
 use crate::format::NamedFormat;
+use crate::of_format::OfFormat;
 use std::alloc::AllocError;
 use std::marker::PhantomData;
 use std::ops::Neg;
@@ -13,7 +14,7 @@ pub struct Number<F: NamedFormat> {
     pub(crate) negative: bool,
     pub(crate) significand: u32,
     pub(crate) exponent: i32,
-    pub(crate) format: PhantomData<F>,
+    pub(crate) format: OfFormat<F>,
     // at most as many digits as the precision, and no fewer unless it is zero:
     // 2 ^ p ≤ 2 · m says that 2 ^ (p − 1) ≤ m, without a subtraction
     ghost short: { significand < 2 ^ F.format.precision },
@@ -53,7 +54,7 @@ impl<F: NamedFormat> Neg for Number<F> {
             negative: self.significand > 0 && !self.negative,
             significand: self.significand,
             exponent: self.exponent,
-            format: PhantomData,
+            format: OfFormat(PhantomData),
         }
     }
 }

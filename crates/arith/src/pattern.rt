@@ -7,6 +7,7 @@ ghost use Rattle.arith.specs.Pattern.{sign_bit, exponent_field, fraction, decode
 
 use crate::format::NamedFormat;
 use crate::number::Number;
+use crate::of_format::OfFormat;
 use std::marker::PhantomData;
 
 // Why a pattern stands for no number of the format. The number of each is the one that the refusal is known by.
@@ -78,7 +79,7 @@ fn normal<F: NamedFormat>(fields: Fields) -> Number<F>
         negative: fields.negative,
         significand: (1u32 << (F::format().precision - 1)) + fields.fraction,
         exponent: unbiased::<F>(fields.exponent),
-        format: PhantomData,
+        format: OfFormat(PhantomData),
     }
 }
 
@@ -134,7 +135,7 @@ impl<F: NamedFormat> Number<F> {
             negative: false,
             significand: 0,
             exponent: 0,
-            format: PhantomData,
+            format: OfFormat(PhantomData),
         }
     }
 

@@ -9,6 +9,7 @@ ghost use Rattle.arith.specs.Term.{term_value, scaled_term};
 use crate::fault::RangeFault;
 use crate::format::NamedFormat;
 use crate::number::Number;
+use crate::of_format::OfFormat;
 use crate::term::Term;
 use rounding::{Addend, Precision, Rule, Unrounded};
 use std::marker::PhantomData;
@@ -33,7 +34,7 @@ fn round_and_judge<F: NamedFormat, R: Rule>(t: Unrounded) -> Result<Number<F>, R
         negative: t.is_negative(),
         significand,
         exponent,
-        format: PhantomData,
+        format: OfFormat(PhantomData),
     })
 }
 

@@ -2,9 +2,9 @@
 // and data/NAME.out what it prints. Then tapes of the greatest length, and line buffers of the least.
 #![tactic(auto)]
 
-use arith::{Bfloat16, Binary16};
+use arith::{Bfloat16, Binary16, Binary32, Complex, NamedFormat, Number, Term};
 use bank::Bank;
-use run::{AfterRecord, FreshRun, NoRoom, OpenedRun};
+use run::{AfterRecord, FreshRun, NoRoom, OpenedRun, Refused};
 use std::alloc::{AllocError, Global};
 use std::io::Write;
 use std::{fs, io};
@@ -160,7 +160,43 @@ fn check_taking(rt: &HostRuntime, opened: OpenedRun<'_>) -> io::Result<()> {
     )
 }
 
+// Writes the line of a tape that is too long into a line buffer of 95 bytes, which is refused, and then into one of 96.
+fn check_refusing(rt: &HostRuntime, tape: &[u8]) -> io::Result<()> {
+    let mut short = [170u8; 95];
+    let mut enough = [170u8; 96];
+    let Err(refusal) = FreshRun::new(tape) else {
+        return Ok(());
+    };
+    let refused = Refused { number: 0, refusal };
+    let Err(no_room) = refused.write(&mut short) else {
+        return Ok(());
+    };
+    let number = no_room.number();
+    let touched = written(&short);
+    println!(rt; "refusing with 95 bytes: {number}, {touched} bytes written")?;
+    let Ok(line) = refused.write(&mut enough) else {
+        return Ok(());
+    };
+    let touched = written(&enough);
+    println!(rt; "refusing with 96 bytes: a line of {line} bytes, {touched} bytes written")
+}
+
+// What may go to another thread, and be looked at from several. (It has nothing to do: that it is called at a type is the check.)
+fn may_cross<T: Send + Sync>(_value: &T) {}
+
+// Whatever the format, numbers may, and what is made of them.
+fn check_crossing<F: NamedFormat>() {
+    let zero = Number::<F>::zero();
+    may_cross(&zero);
+    may_cross(&Term::from(zero));
+    may_cross(&Complex { re: zero, im: zero });
+    may_cross(&Bank::<F>::new());
+}
+
 fn main(rt: HostRuntime) -> io::Result<()> {
+    check_crossing::<Binary16>();
+    check_crossing::<Bfloat16>();
+    check_crossing::<Binary32>();
     for name in [
         "first",
         "empty",
@@ -204,7 +240,8 @@ fn main(rt: HostRuntime) -> io::Result<()> {
     check_too_wide(&rt, 0x1_0000)?;
     check_too_wide(&rt, 0xFFFF_FFFF)?;
     match check_opening(&rt, &[2, 0, 1, 0, 1, 1, 0, 0, 8, 0])? {
-        Some(opened) => check_taking(&rt, opened),
-        None => println!(rt; "not opened"),
+        Some(opened) => check_taking(&rt, opened)?,
+        None => println!(rt; "not opened")?,
     }
+    check_refusing(&rt, &[0u8; 65537])
 }

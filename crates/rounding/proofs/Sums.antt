@@ -1,7 +1,8 @@
 -- The cases of a sum of two addends.
-use Rattle.std.proofs.Common.{◌≡◌, ℕ, zero, suc, ◌+◌, ◌-◌, ◌*◌, ◌^◌, ◌<◌, ◌≤◌, ℤ, pos, negsuc, ◌+ℤ◌, ◌-ℤ◌, ◌*ℤ◌, ◌≤ℤ◌, neg_ℤ, true, false, nat_abs, FitsSigned, to_z, of_z, sym, refl, ap, ◌∙◌, ap₂, subst, lt_of_le_of_lt, lt_of_lt_of_le, mul-lt-mul_of_pos_right, arith, zero-lt-suc, pow_pos, pow_mono, pow-add}
+use Rattle.std.proofs.Common.{◌≡◌, ℕ, zero, suc, ◌+◌, ◌-◌, ◌*◌, ◌%◌, ◌^◌, ◌<◌, ◌≤◌, ℤ, pos, negsuc, ◌+ℤ◌, ◌-ℤ◌, ◌*ℤ◌, ◌≤ℤ◌, neg_ℤ, true, false, nat_abs, FitsSigned, to_z, of_z, sym, refl, ap, ◌∙◌, ap₂, subst, lt_of_le_of_lt, lt_of_lt_of_le, mul-lt-mul_of_pos_right, arith, zero-lt-suc, pow_pos, pow_mono, pow-add}
 use borrow.Author.Differences.{ints}
 use Rattle.std.specs.Int.{int_signum, w128}
+use Rattle.std.proofs.lemmas.Int.{to_z_pos}
 use Rattle.exact.specs.Exact.{Exact, scaled, two^, ◌≈◌, ◌⊞◌}
 use Rattle.exact.specs.Rounding.{RoundAlike}
 use Rattle.exact.proofs.Signs.{abs_mul}
@@ -14,11 +15,21 @@ use Rattle.rounding.proofs.Wholes.{whole_fits, same_whole}
 abs_plus : (x y : ℤ) → nat_abs (x +ℤ y) ≤ nat_abs x + nat_abs y
 abs_plus x y = omega (arith, ints)
 
+-- ---- 2 ^ a, as a shift makes it
+power_short : (a : ℕ) → a < 77 → 2 ^ a < 2 ^ 126
+power_short a near = lt_of_le_of_lt (pow_mono {i = a} {j = 76} (omega arith)) (omega arith)
+
+shift_is : (p : ℕ) → p < 2 ^ 126 → 1 * p % 2 ^ 128 ≡ p
+shift_is p short = omega arith
+
+pub shift_fits : (a : ℕ) → a < 77 → FitsSigned w128 (pos (1 * 2 ^ a % 2 ^ 128))
+shift_fits a near = rw (shift_is (2 ^ a) (power_short a near)) (whole_fits (pos (2 ^ a)) (power_short a near))
+
+pub shift_gives : (a : ℕ) → a < 77 → to_z w128 (1 * 2 ^ a % 2 ^ 128) ≡ two^ a
+shift_gives a near = ap (to_z w128) (shift_is (2 ^ a) (power_short a near)) ∙ to_z_pos w128 (2 ^ a) (omega (arith, power_short a near))
+
 -- ---- x, moved up by a digits, and y, in the code's whole numbers
 module _ (x y p : ℤ) (a : ℕ) (hx : nat_abs x < 2 ^ 48) (hy : nat_abs y < 2 ^ 48) (near : a < 77) (power : p ≡ two^ a) where
-  short_power : 2 ^ a < 2 ^ 126
-  short_power = lt_of_le_of_lt (pow_mono {i = a} {j = 76} (omega arith)) (omega arith)
-
   short_product : nat_abs (x *ℤ two^ a) < 2 ^ 124
   short_product =
       rw (abs_mul x (two^ a))
@@ -28,7 +39,7 @@ module _ (x y p : ℤ) (a : ℕ) (hx : nat_abs x < 2 ^ 48) (hy : nat_abs y < 2 ^
   short_sum = omega (arith, abs_plus (x *ℤ two^ a) y, short_product)
 
   product_is : to_z w128 (of_z w128 x) *ℤ to_z w128 (of_z w128 p) ≡ x *ℤ two^ a
-  product_is = ap₂ ◌*ℤ◌ (same_whole x (omega arith)) (ap (λ (z : ℤ). to_z w128 (of_z w128 z)) power ∙ same_whole (two^ a) short_power)
+  product_is = ap₂ ◌*ℤ◌ (same_whole x (omega arith)) (ap (λ (z : ℤ). to_z w128 (of_z w128 z)) power ∙ same_whole (two^ a) (power_short a near))
 
   sum_is : to_z w128 (of_z w128 (to_z w128 (of_z w128 x) *ℤ to_z w128 (of_z w128 p))) +ℤ to_z w128 (of_z w128 y) ≡ x *ℤ two^ a +ℤ y
   sum_is = ap₂ ◌+ℤ◌ (ap (λ (z : ℤ). to_z w128 (of_z w128 z)) product_is ∙ same_whole (x *ℤ two^ a) (omega (arith, short_product))) (same_whole y (omega arith))
@@ -47,9 +58,6 @@ module _ (x y p : ℤ) (a : ℕ) (hx : nat_abs x < 2 ^ 48) (hy : nat_abs y < 2 ^
 
 pub operands_same : (x y : ℤ) (a : ℕ) → nat_abs x < 2 ^ 48 → nat_abs y < 2 ^ 48 → to_z w128 (of_z w128 x) *ℤ two^ a +ℤ to_z w128 (of_z w128 y) ≡ x *ℤ two^ a +ℤ y
 operands_same x y a hx hy = ap₂ (λ (u v : ℤ). u *ℤ two^ a +ℤ v) (same_whole x (omega arith)) (same_whole y (omega arith))
-
-pub power_fits : (a : ℕ) → a < 77 → FitsSigned w128 (pos (2 ^ a))
-power_fits a near = whole_fits (pos (2 ^ a)) (lt_of_le_of_lt (pow_mono {i = a} {j = 76} (omega arith)) (omega arith))
 
 -- ---- near each other: the sum is exact
 pub close_is : (x y r ex ey e : ℤ) (a : ℕ) → ex ≡ ey +ℤ pos a → e ≡ ey → r ≡ x *ℤ two^ a +ℤ y → scaled r e ≈ scaled x ex ⊞ scaled y ey

@@ -6,8 +6,16 @@ ghost use Rattle.rounding.specs.Values.{exact_value, RoundsAs};
 
 use crate::dyadic::{Addend, Unrounded};
 
+// 2 to the power of so many places. A shift makes it in one step, where a power multiplies again and again.
+fn power_of_two(places: u32) -> i128
+    requires { places < 77 }
+    ensures { result ≡ two^ places }
+{
+    (1u128 << places) as i128
+}
+
 // x moved up by so many places, and y. With 48 digits each and at most 76 places, the sum has at most 125 digits. It is moved by a power
-// and not by a shift, whose contract speaks of bits.
+// and not by a shift of its own, whose contract speaks of bits.
 fn moved_sum(x: i128, places: u32, y: i128) -> i128
     requires left { unsigned_abs x < 2 ^ 48 }
     requires right { unsigned_abs y < 2 ^ 48 }
@@ -15,7 +23,7 @@ fn moved_sum(x: i128, places: u32, y: i128) -> i128
     ensures value { result ≡ x *ℤ two^ places +ℤ y }
     ensures short { unsigned_abs result < 2 ^ 126 }
 {
-    x * 2i128.pow(places) + y
+    x * power_of_two(places) + y
 }
 
 // One unit with the sign of y.

@@ -31,19 +31,25 @@ fn hex_digit(d: u8) -> u8
 }
 
 impl Line {
-    // A line that begins with the record's number and a word.
-    pub(crate) fn start(number: u32, word: &str) -> Line
-        requires { length word.now ≤ 4 }
-        ensures text { result ≡ start number word.now }
-        ensures short { length result ≤ 15 }
+    // A line with no text yet.
+    pub fn new() -> Line
+        ensures { result ≡ [] }
     {
-        let mut line = Line {
+        Line {
             text: ArrayVec::new(),
-        };
-        line.push_decimal(number);
-        line.push(b' ');
-        line.push_bytes(word.as_bytes());
-        line
+        }
+    }
+
+    // Begins the line anew, with the record's number and a word.
+    pub(crate) fn start(&mut self, number: u32, word: &str)
+        requires { length word.now ≤ 4 }
+        ensures text { self.new ≡ start number word.now }
+        ensures short { length self.new ≤ 15 }
+    {
+        self.text.clear();
+        self.push_decimal(number);
+        self.push(b' ');
+        self.push_bytes(word.as_bytes());
     }
 
     // Each of the writers asks for room for what it puts in. No type says it, since each needs another number of bytes.
@@ -61,14 +67,28 @@ impl Line {
         self.text.try_extend_from_slice(bytes).unwrap();
     }
 
-    // A number in decimal, which has at most ten digits.
+    // The same for a few bytes, each put in by itself: a copy of a length that is known only at run time takes longer.
+    fn push_few(&mut self, bytes: &[u8])
+        requires { length self.old + length bytes.now ≤ 96 }
+        ensures { self.new ≡ self.old ++ bytes.now }
+    {
+        for byte in bytes {
+            self.push(*byte);
+        }
+    }
+
+    // A number in decimal, which has at most ten digits. Most have one, and need no buffer.
+    #[tactic(auto, using(std::proofs::lemmas::Fmt::decimal_digit))]
     fn push_decimal(&mut self, n: u32)
         requires { length self.old + 10 ≤ 96 }
         ensures text { self.new ≡ self.old ++ decimal n }
         ensures short { length self.new ≤ length self.old + 10 }
     {
+        if n < 10 {
+            return self.push(b'0' + n as u8);
+        }
         let mut digits = itoa::Buffer::new();
-        self.push_bytes(digits.format(n).as_bytes());
+        self.push_few(digits.format(n).as_bytes());
     }
 
     // The last digits of a number in hexadecimal with capital letters, as many as the width: a recursion, as their definition is.

@@ -1,8 +1,9 @@
 // The lines of records: of an accepted one, of the opening one, and of a refused one.
 ghost use Rattle.std.specs.Prelude.{◌≡◌, ◌+◌, ◌≤◌, ◌++◌, length, Ok, Err, MatchResult};
-ghost use Rattle.run.specs.Lines.{open_line, done_line, done_word, done_fields, refusal_line, done_by};
+ghost use Rattle.run.specs.Lines.{start, open_line, done_line, done_word, done_fields, refusal_line, done_by};
 ghost use Rattle.run.specs.States.{room_for};
 ghost use Rattle.run.specs.Text.{Wrote};
+ghost use Rattle.run.specs.Turns.{line_by, replied};
 
 use crate::line::Line;
 use crate::refusal::{Refusal, Refused};
@@ -28,7 +29,8 @@ pub(crate) fn with_room<Run>(run: Run, buffer: &[u8]) -> Result<Run, NoRoom<Run>
 pub(crate) fn open_line(number: u32, codes: Codes) -> Line
     ensures { result ≡ open_line number codes }
 {
-    let mut line = Line::start(number, Kind::Open.word());
+    let mut line = Line::new();
+    line.start(number, Kind::Open.word());
     line.push_number(u8::from(codes.format).into());
     line.push_number(u8::from(codes.method).into());
     line.end();
@@ -36,57 +38,72 @@ pub(crate) fn open_line(number: u32, codes: Codes) -> Line
 }
 
 impl Reply<'_> {
-    fn word(self) -> &'static str
-        ensures word { result.now ≡ done_word (done_by self.entry) }
-        ensures short { length result.now ≤ 4 }
-    {
-        match self {
-            Reply::Loaded { .. } => Kind::Load.word(),
-            Reply::Shown { .. } => Kind::Show.word(),
-            Reply::Noted { .. } => Kind::Note.word(),
-            Reply::Ended => Kind::End.word(),
-        }
-    }
-
-    // Puts the fields of an accepted record behind the opening one into its line.
-    fn push_fields<F: NamedFormat>(self, line: &mut Line)
-        requires { length line.old ≤ 15 }
-        ensures text { line.new ≡ line.old ++ done_fields F.format (done_by self.entry) }
+    // Puts the line of an accepted record behind the opening one into a line, in place of what it held, but for the byte that ends it.
+    fn begin<F: NamedFormat>(self, number: u32, line: &mut Line)
+        ensures text { line.new ≡ start number (done_word (done_by self.entry)) ++ done_fields F.format (done_by self.entry) }
         ensures short { length line.new ≤ 80 }
     {
         match self {
-            Reply::Loaded { place } => line.push_number(place.into()),
+            Reply::Loaded { place } => {
+                line.start(number, Kind::Load.word());
+                line.push_number(place.into());
+            }
             Reply::Shown { place, shown } => {
+                line.start(number, Kind::Show.word());
                 line.push_number(place.into());
                 line.push_pattern::<F>(shown.re);
                 line.push_pattern::<F>(shown.im);
                 line.push_number(shown.depth.into());
             }
-            Reply::Noted { text } => line.push_text(text),
-            Reply::Ended => {}
+            Reply::Noted { text } => {
+                line.start(number, Kind::Note.word());
+                line.push_text(text);
+            }
+            Reply::Ended => line.start(number, Kind::End.word()),
         }
     }
 
-    // The line of an accepted record behind the opening one.
-    pub(crate) fn line<F: NamedFormat>(self, number: u32) -> Line
-        ensures { result ≡ done_line F.format number (done_by self.entry) }
+    // The whole line, likewise.
+    fn put<F: NamedFormat>(self, number: u32, line: &mut Line)
+        ensures { line.new ≡ done_line F.format number (done_by self.entry) }
     {
-        let mut line = Line::start(number, self.word());
-        self.push_fields::<F>(&mut line);
+        self.begin::<F>(number, line);
         line.end();
-        line
+    }
+}
+
+// Puts the line of a record behind the opening one into a line, in place of what it held. It is not handed out as a value: each line
+// would be copied from call to call.
+pub(crate) fn put_answer<F: NamedFormat>(
+    answer: Result<Reply<'_>, Refusal>,
+    number: u32,
+    line: &mut Line,
+)
+    ensures { line.new ≡ line_by F.format number (replied answer.entry) }
+{
+    match answer {
+        Ok(reply) => reply.put::<F>(number, line),
+        Err(refusal) => Refused { number, refusal }.put(line),
     }
 }
 
 impl Refused {
+    // Puts the line of the refused record into a line, in place of what it held.
+    pub(crate) fn put(self, line: &mut Line)
+        ensures { line.new ≡ refusal_line self.number self.refusal }
+    {
+        line.start(self.number, "no");
+        line.push_number(self.refusal.number().into());
+        line.push_number(0);
+        line.end();
+    }
+
     // The line of the refused record.
     pub fn line(self) -> Line
         ensures { result ≡ refusal_line self.number self.refusal }
     {
-        let mut line = Line::start(self.number, "no");
-        line.push_number(self.refusal.number().into());
-        line.push_number(0);
-        line.end();
+        let mut line = Line::new();
+        self.put(&mut line);
         line
     }
 

@@ -7,7 +7,7 @@ ghost use Rattle.run.specs.Turns.{obeyed, places_by, replied, answered, places_i
 ghost use Rattle.run.specs.States.{left, short_tape, Starts, Opened, OpensTo, Opens, LeadsTo, Takes, first, first_line, next_number, next_record, taken_from, IsBehind};
 
 use crate::line::Line;
-use crate::lines::{open_line, with_room};
+use crate::lines::{open_line, put_answer, with_room};
 use crate::refusal::{Refusal, Refused};
 use crate::reply::Reply;
 use crate::states::{AfterRecord, EndedRun, FreshRun, NoRoom, OpenedRun, Window};
@@ -129,11 +129,16 @@ impl<'a> OpenedRun<'a> {
         self.codes
     }
 
-    // Takes the next record, with a bank that is lent for it: where that leads, and the record's line.
+    // Takes the next record, with a bank that is lent for it: where that leads. The record's line stands in the lent line, in place of what
+    // it held.
     #[tactic(auto, using(crate::proofs::Unchanged::unchanged))]
-    pub fn next_line<F: NamedFormat>(self, bank: &mut Bank<F>) -> (AfterRecord<'a>, Line)
-        ensures leads { LeadsTo F.format self.entry (holds bank.old) result.0 }
-        ensures line { result.1 ≡ line_of F.format (holds bank.old) (next_number self.entry) (next_record self.entry) }
+    pub fn next_line_into<F: NamedFormat>(
+        self,
+        bank: &mut Bank<F>,
+        line: &mut Line,
+    ) -> AfterRecord<'a>
+        ensures leads { LeadsTo F.format self.entry (holds bank.old) result }
+        ensures line { line.new ≡ line_of F.format (holds bank.old) (next_number self.entry) (next_record self.entry) }
         ensures places { holds bank.new ≡ places_of F.format (holds bank.old) (next_record self.entry) }
         ensures refused_changes_nothing { is_err (outcome F.format (holds bank.old) (next_record self.entry)) ≡ true → holds bank.new ≡ holds bank.old }
     {
@@ -143,17 +148,31 @@ impl<'a> OpenedRun<'a> {
         match window.record() {
             Ok((frame, window)) => {
                 let running = AfterRecord::Running(OpenedRun { window, codes });
-                match answer(bank, frame) {
-                    Ok(reply) if reply.is_end() => (ended, reply.line::<F>(number)),
-                    Ok(reply) => (running, reply.line::<F>(number)),
-                    Err(refusal) => (running, Refused { number, refusal }.line()),
+                let answer = answer(bank, frame);
+                put_answer::<F>(answer, number, line);
+                match answer {
+                    Ok(reply) if reply.is_end() => ended,
+                    _ => running,
                 }
             }
             Err(e) => {
                 let refusal = Refusal::from(e);
-                (ended, Refused { number, refusal }.line())
+                Refused { number, refusal }.put(line);
+                ended
             }
         }
+    }
+
+    // The same with the line as a value.
+    pub fn next_line<F: NamedFormat>(self, bank: &mut Bank<F>) -> (AfterRecord<'a>, Line)
+        ensures leads { LeadsTo F.format self.entry (holds bank.old) result.0 }
+        ensures line { result.1 ≡ line_of F.format (holds bank.old) (next_number self.entry) (next_record self.entry) }
+        ensures places { holds bank.new ≡ places_of F.format (holds bank.old) (next_record self.entry) }
+        ensures refused_changes_nothing { is_err (outcome F.format (holds bank.old) (next_record self.entry)) ≡ true → holds bank.new ≡ holds bank.old }
+    {
+        let mut line = Line::new();
+        let next = self.next_line_into(bank, &mut line);
+        (next, line)
     }
 
     // Takes the next record with its line in a lent buffer: where the record leads, and how long its line is.
@@ -166,7 +185,8 @@ impl<'a> OpenedRun<'a> {
         ensures refused_changes_nothing { is_err (outcome F.format (holds bank.old) (next_record self.entry)) ≡ true → holds bank.new ≡ holds bank.old }
     {
         let run = with_room(self, buffer)?;
-        let (next, line) = run.next_line(bank);
+        let mut line = Line::new();
+        let next = run.next_line_into(bank, &mut line);
         let length = line.write(buffer);
         Ok((next, length))
     }

@@ -31,7 +31,8 @@ fn print_record<'a, F: NamedFormat>(
     ensures leads { IfOk result (LeadsTo F.format run.entry (holds bank.old)) }
     ensures places { holds bank.new ≡ places_of F.format (holds bank.old) (next_record run.entry) }
 {
-    let (next, line) = run.next_line(bank);
+    let mut line = Line::new();
+    let next = run.next_line_into(bank, &mut line);
     add_line(out, &line)?;
     Ok(next)
 }
