@@ -24,9 +24,11 @@ pub struct Format {
 impl Format {
     ghost use Rattle.arith.specs.Format.{format_of};
 
-    // The format of a code: 1 is binary16, 2 is bfloat16; any other code stands for binary32, whose own code is 3.
+    // The format of a code: 1 is binary16, 2 is bfloat16; any other code stands for binary32, whose own code is 3. Each name below means the
+    // format of its code.
     pub fn of_code(code: u8) -> Format
-        ensures { result ≡ format_of code }
+        ensures defined { result ≡ format_of code }
+        ensures names { (⟦<Binary16 as NamedFormat>⟧.format ≡ format_of 1) × (⟦<Bfloat16 as NamedFormat>⟧.format ≡ format_of 2) × (⟦<Binary32 as NamedFormat>⟧.format ≡ format_of 3) }
     {
         match code {
             1 => Binary16::format(),
