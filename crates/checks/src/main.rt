@@ -160,6 +160,18 @@ fn check_taking(rt: &HostRuntime, opened: OpenedRun<'_>) -> io::Result<()> {
     )
 }
 
+// Takes the record behind the first one with its line as a value.
+fn check_line(rt: &HostRuntime, tape: &[u8]) -> io::Result<()> {
+    let Ok(fresh) = FreshRun::new(tape) else {
+        return Ok(());
+    };
+    let (AfterRecord::Running(run), _) = fresh.first_line() else {
+        return Ok(());
+    };
+    let (_, line) = run.next_line(&mut Bank::<Binary16>::new());
+    rt.stdout().write_all(line.as_bytes())
+}
+
 // Writes the line of a tape that is too long into a line buffer of 95 bytes, which is refused, and then into one of 96.
 fn check_refusing(rt: &HostRuntime, tape: &[u8]) -> io::Result<()> {
     let mut short = [170u8; 95];
@@ -181,10 +193,10 @@ fn check_refusing(rt: &HostRuntime, tape: &[u8]) -> io::Result<()> {
     println!(rt; "refusing with 96 bytes: a line of {line} bytes, {touched} bytes written")
 }
 
-// What may go to another thread, and be looked at from several. (It has nothing to do: that it is called at a type is the check.)
+// Called at what is Send and Sync. (It has nothing to do: that it is called at a type is the check.)
 fn may_cross<T: Send + Sync>(_value: &T) {}
 
-// Whatever the format, numbers may, and what is made of them.
+// Whatever the format, numbers are, and what is made of them.
 fn check_crossing<F: NamedFormat>() {
     let zero = Number::<F>::zero();
     may_cross(&zero);
@@ -243,5 +255,6 @@ fn main(rt: HostRuntime) -> io::Result<()> {
         Some(opened) => check_taking(&rt, opened)?,
         None => println!(rt; "not opened")?,
     }
-    check_refusing(&rt, &[0u8; 65537])
+    check_refusing(&rt, &[0u8; 65537])?;
+    check_line(&rt, &[2, 0, 1, 0, 1, 1, 0, 0, 8, 0])
 }

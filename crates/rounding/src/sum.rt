@@ -14,8 +14,8 @@ fn power_of_two(places: u32) -> i128
     (1u128 << places) as i128
 }
 
-// x moved up by so many places, and y. With 48 digits each and at most 76 places, the sum has at most 125 digits. It is moved by a power
-// and not by a shift of its own, whose contract speaks of bits.
+// x moved up by so many places, and y. With 48 digits each and at most 76 places, the sum has at most 125 digits. x is multiplied by the
+// power and not shifted itself, since the contract of a shift speaks of bits.
 fn moved_sum(x: i128, places: u32, y: i128) -> i128
     requires left { unsigned_abs x < 2 ^ 48 }
     requires right { unsigned_abs y < 2 ^ 48 }

@@ -77,7 +77,7 @@ impl Line {
         }
     }
 
-    // A number in decimal, which has at most ten digits. Most have one, and need no buffer.
+    // A number in decimal, which has at most ten digits. One digit needs no buffer.
     #[tactic(auto, using(std::proofs::lemmas::Fmt::decimal_digit))]
     fn push_decimal(&mut self, n: u32)
         requires { length self.old + 10 ≤ 96 }

@@ -110,7 +110,7 @@ impl<'a> FreshRun<'a> {
     }
 
     // Opens the run with its first record's line in a lent buffer: where the record leads, and how long its line is. The buffer is the
-    // caller's, since a run has no memory of its own. (Room, line, writing: three calls here, in take_record and in Refused::write. One
+    // caller's, since a run has no memory of its own. (Room, line, writing: the same calls here, in take_record and in Refused::write. One
     // function over them would take the line as a closure, and be no shorter.)
     pub fn open(self, buffer: &mut [u8]) -> Result<(AfterRecord<'a>, usize), NoRoom<FreshRun<'a>>>
         ensures { Opens self.entry buffer.old buffer.new result }

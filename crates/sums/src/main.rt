@@ -153,16 +153,17 @@ fn agrees(n: u32) -> Option<bool> {
     Some(machine_sum(a, b) == Some(sum.map(|x| x.pattern())))
 }
 
-// Sums in binary32 by the rule of the machine's floats: how many there are, and how many of them differ.
+// Sums in binary32 by the rule of the machine's floats: how many there are, and how many of them differ. It is a loop, so that each sum is
+// made once.
 fn check_machine(rt: &HostRuntime) -> io::Result<()> {
-    let (compared, different) = (0..20000u32)
-        .filter_map(agrees)
-        .fold((0u32, 0u32), |(compared, different), same| {
-            (
-                compared.wrapping_add(1),
-                different.wrapping_add(u32::from(!same)),
-            )
-        });
+    let mut compared = 0u32;
+    let mut different = 0u32;
+    for same in (0..20000u32).filter_map(agrees) {
+        compared = compared.wrapping_add(1);
+        if !same {
+            different = different.wrapping_add(1);
+        }
+    }
     println!(rt;
         "sums of binary32 against the machine's floats: {compared} compared, {different} different"
     )
