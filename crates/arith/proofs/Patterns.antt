@@ -5,6 +5,7 @@ use Rattle.std.proofs.lemmas.Bool.{leb-false, ne_eqb, or_parts, cond-false}
 use Rattle.std.proofs.lemmas.Bool.Decides.{nat_tests}
 use Rattle.exact.specs.Parts.{Parts, parts, Canonical}
 use Rattle.exact.proofs.OneForm.{same_parts}
+use Rattle.arith.specs.Format.{Sound}
 use Rattle.arith.specs.declared.format.Format.{Format}
 use Rattle.arith.specs.Pattern.{sign_bit, exponent_field, fraction, invalid, encoded, plain_zero, ToldApart}
 use Rattle.arith.proofs.Formats.{leading_one, exponents, sign_place, significands, unsigned, signed}
@@ -38,7 +39,7 @@ leading_form : (p a t : ℕ) (b : Bool) (e : ℤ) → 0 < a → t < a → 2 ^ p 
 leading_form p a t b e h k q = record { short = omega arith; full = λ _. omega arith; plain = λ z. absurd (omega arith); flat = λ z. absurd (omega arith) }
 
 -- ---- an accepted pattern
-module _ (f : Format) (n : ℕ) where
+module _ (f : Format) (s : Sound f) (n : ℕ) where
   abbrev a : ℕ
   a = leading_one f
 
@@ -62,10 +63,10 @@ module _ (f : Format) (n : ℕ) where
 
   sign_digit : invalid f n ≡ false → n / h < 2
   sign_digit v =
-      (div-lt_iff_lt-mul (pow_pos (f.width - 1))).1 (subst (λ k. n < k) (signed f) (leb-false (2 ^ f.width) n (or_parts (leb (2 ^ f.width) n) _ v).0))
+      (div-lt_iff_lt-mul (pow_pos (f.width - 1))).1 (subst (λ k. n < k) (signed f s) (leb-false (2 ^ f.width) n (or_parts (leb (2 ^ f.width) n) _ v).0))
 
   by_digits : n / h * h + (q * a + t) ≡ n
-  by_digits = from_digits n (unsigned f) some_one some_exponent
+  by_digits = from_digits n (unsigned f s) some_one some_exponent
 
   pub shown : (x : Parts) → Accepted f n x → encoded f x ≡ plain_zero f n
   shown x (as_zero v no_field no_fraction) = alone (n / h) h n (sign_digit v) (no_others (n / h * h) q a t n no_field no_fraction by_digits)
@@ -84,13 +85,13 @@ module _ (f : Format) (n : ℕ) where
       some_lower = some_sum (q * a) t (mul-pos some_field some_one)
 
       short_lower : q * a + t < h
-      short_lower = two_lower (unsigned f) (mod-lt (n / a) some_exponent) short_fraction
+      short_lower = two_lower (unsigned f s) (mod-lt (n / a) some_exponent) short_fraction
 
   pub canonical : (x : Parts) → Accepted f n x → Canonical f.precision x
   canonical x (as_zero _ _ _) = record { short = pow_pos f.precision; full = λ k. absurd (omega arith); plain = λ _. refl; flat = λ _. refl }
-  canonical x (as_normal _ _) = leading_form f.precision a t (sign_bit f n) (pos q -ℤ pos f.emax) some_one short_fraction (significands f)
+  canonical x (as_normal _ _) = leading_form f.precision a t (sign_bit f n) (pos q -ℤ pos f.emax) some_one short_fraction (significands f s)
 
-pub told_apart : (f : Format) → (n : ℕ) (x : Parts) → Accepted f n x → ToldApart f n x
-told_apart f n x u m y e same =
+pub told_apart : (f : Format) → Sound f → (n : ℕ) (x : Parts) → Accepted f n x → ToldApart f n x
+told_apart f s n x u m y e same =
     let v = accepted f m y e in
-    sym (shown f m y v) ∙ ap (encoded f) (same_parts f.precision y x (canonical f m y v) (canonical f n x u) same) ∙ shown f n x u
+    sym (shown f s m y v) ∙ ap (encoded f) (same_parts f.precision y x (canonical f s m y v) (canonical f s n x u) same) ∙ shown f s n x u

@@ -12,6 +12,7 @@ use Rattle.exact.proofs.Roundings.{canonical_precise}
 use Rattle.exact.proofs.Bounds.{exact_kept, within_roundoff, size_reaches, size_stays, sum_error_precise}
 use Rattle.exact.proofs.Sums.{alike_same}
 use Rattle.exact.proofs.Midway.{one_of_two, free_midway_only}
+use Rattle.arith.specs.Format.{Sound}
 use Rattle.arith.specs.declared.format.Format.{Format}
 use Rattle.arith.specs.declared.fault.RangeFault.{RangeFault}
 use Rattle.arith.specs.declared.fault.RangeFault.TheVariants.{Above, Below}
@@ -33,7 +34,7 @@ no_higher : (e m : ℤ) (p : ℕ) → m <ℤ e → (e +ℤ pos 1 -ℤ pos p) ≤
 no_higher e m p h l = omega (arith, ints)
 
 -- ---- a step by any rounding
-module _ (f : Format) (rn : Exact → Parts) (R : Rounding f.precision rn) (t : Exact) where
+module _ (f : Format) (s : Sound f) (rn : Exact → Parts) (R : Rounding f.precision rn) (t : Exact) where
   abbrev p : ℕ
   p = f.precision
 
@@ -52,7 +53,7 @@ module _ (f : Format) (rn : Exact → Parts) (R : Rounding f.precision rn) (t : 
   not_larger : in_range f x ≡ Err Above → size t ⊑ largest f → ⊥
   not_larger e h =
       let (some, high) = above f x e in
-      let l : size (value p x) ⊑ largest f = size_stays p t (value p x) precise (R.nearest t) f.some_digit (2 ^ p - 1) (omega arith) (pos f.emax +ℤ pos 1 -ℤ pos p) h in
+      let l : size (value p x) ⊑ largest f = size_stays p t (value p x) precise (R.nearest t) s.some_digit (2 ^ p - 1) (omega arith) (pos f.emax +ℤ pos 1 -ℤ pos p) h in
       no_higher x.exponent (pos f.emax) p high
       (exponents_le p x.significand (2 ^ p - 1) (x.exponent +ℤ pos 1 -ℤ pos p) (pos f.emax +ℤ pos 1 -ℤ pos p) ((R.canonical t).full some) (less (2 ^ p) (pow_pos p)) (subst (λ (z : Exact). z ⊑ largest f) sized l))
     where
@@ -62,9 +63,9 @@ module _ (f : Format) (rn : Exact → Parts) (R : Rounding f.precision rn) (t : 
   not_smaller : in_range f x ≡ Err Below → (t ≈ whole (pos 0)) ⊎ (smallest f ⊑ size t) → ⊥
   not_smaller e (inr h) =
       let (some, low) = below f x e in
-      let l : smallest f ⊑ size (value p x) = size_reaches p t (value p x) precise (R.nearest t) f.some_digit (2 ^ (p - 1)) (omega (arith, significands f)) (pos 1 -ℤ pos f.emax +ℤ pos 1 -ℤ pos p) h in
+      let l : smallest f ⊑ size (value p x) = size_reaches p t (value p x) precise (R.nearest t) s.some_digit (2 ^ (p - 1)) (omega (arith, significands f s)) (pos 1 -ℤ pos f.emax +ℤ pos 1 -ℤ pos p) h in
       no_higher (pos 1 -ℤ pos f.emax) x.exponent p low
-      (exponents_le p (2 ^ (p - 1)) x.significand (pos 1 -ℤ pos f.emax +ℤ pos 1 -ℤ pos p) (x.exponent +ℤ pos 1 -ℤ pos p) (omega (arith, significands f)) (R.canonical t).short (subst (λ (z : Exact). smallest f ⊑ z) sized l))
+      (exponents_le p (2 ^ (p - 1)) x.significand (pos 1 -ℤ pos f.emax +ℤ pos 1 -ℤ pos p) (x.exponent +ℤ pos 1 -ℤ pos p) (omega (arith, significands f s)) (R.canonical t).short (subst (λ (z : Exact). smallest f ⊑ z) sized l))
   not_smaller e (inl z) =
       let (some, low) = below f x e in
       let k : value p x ≈ t = exact_kept p t (value p x) precise (R.nearest t) (pos 0, pos 0, pow_pos p, z) in
@@ -74,12 +75,12 @@ module _ (f : Format) (rn : Exact → Parts) (R : Rounding f.precision rn) (t : 
   rightly : RightlyRounded f t (in_range f x)
   rightly = record {
     nearest = λ y e. subst (λ (z : Parts). NoneNearer p t (value p z)) (accepted f x y zero_form e) (R.nearest t);
-    within_roundoff = λ y e. subst (λ (z : Parts). WithinRoundoff p t (value p z)) (accepted f x y zero_form e) (within_roundoff p t (value p x) precise (R.nearest t) f.some_digit);
+    within_roundoff = λ y e. subst (λ (z : Parts). WithinRoundoff p t (value p z)) (accepted f x y zero_form e) (within_roundoff p t (value p x) precise (R.nearest t) s.some_digit);
     exact_kept = λ y e h. subst (λ (z : Parts). value p z ≈ t) (accepted f x y zero_form e) (exact_kept p t (value p x) precise (R.nearest t) h);
     too_large = not_larger;
     too_small = not_smaller;
-    one_of_two = λ y e. subst (λ (z : Parts). OneOfTwo p t (value p z)) (accepted f x y zero_form e) (one_of_two p f.some_digit t (value p x) precise (R.nearest t));
-    free_midway_only = λ other O free. ap (in_range f) (free_midway_only p f.some_digit rn (other p) R O t free);
+    one_of_two = λ y e. subst (λ (z : Parts). OneOfTwo p t (value p z)) (accepted f x y zero_form e) (one_of_two p s.some_digit t (value p x) precise (R.nearest t));
+    free_midway_only = λ other O free. ap (in_range f) (free_midway_only p s.some_digit rn (other p) R O t free);
   }
 
 -- ---- what a step answers on a value that is rounded like u
@@ -87,18 +88,18 @@ pub record Answers (f : Format) (rn : ℕ → Exact → Parts) (u : Exact) (answ
   pub defined : answer ≡ stepped f rn u
   pub rightly_rounded : RightlyRounded f u answer
 
-pub answers : (f : Format) → (rn : ℕ → Exact → Parts) → ((p : ℕ) → 0 < p → Rounding p (rn p)) → (t u : Exact) → RoundAlike 24 t u → (answer : Result Parts RangeFault) → answer ≡ stepped f rn t → Answers f rn u answer
-answers f rn rounds t u h answer e =
+pub answers : (f : Format) → Sound f → (rn : ℕ → Exact → Parts) → ((p : ℕ) → 0 < p → Rounding p (rn p)) → (t u : Exact) → RoundAlike 24 t u → (answer : Result Parts RangeFault) → answer ≡ stepped f rn t → Answers f rn u answer
+answers f s rn rounds t u h answer e =
     let p = f.precision in
-    let R = rounds p f.some_digit in
-    let d : answer ≡ stepped f rn u = e ∙ ap (in_range f) (h.alike p f.some_digit f.few_digits (rn p) R) in
-    record { defined = d; rightly_rounded = subst (RightlyRounded f u) (sym d) (rightly f (rn p) R u) }
+    let R = rounds p s.some_digit in
+    let d : answer ≡ stepped f rn u = e ∙ ap (in_range f) (h.alike p s.some_digit s.few_digits (rn p) R) in
+    record { defined = d; rightly_rounded = subst (RightlyRounded f u) (sym d) (rightly f s (rn p) R u) }
 
 -- an answer has the format's precision
-pub answer_precise : (f : Format) → (rn : ℕ → Exact → Parts) → ((p : ℕ) → 0 < p → Rounding p (rn p)) → (u : Exact) (answer : Result Parts RangeFault) → Answers f rn u answer → (x : Parts) → answer ≡ Ok x → HasPrecision f.precision (value f.precision x)
-answer_precise f rn rounds u answer a x e =
-    let R = rounds f.precision f.some_digit in
-    subst (λ (z : Parts). HasPrecision f.precision (value f.precision z)) (accepted f (rn f.precision u) x (zero_form f (rn f.precision) R u) (sym a.defined ∙ e)) (precise f (rn f.precision) R u)
+pub answer_precise : (f : Format) → Sound f → (rn : ℕ → Exact → Parts) → ((p : ℕ) → 0 < p → Rounding p (rn p)) → (u : Exact) (answer : Result Parts RangeFault) → Answers f rn u answer → (x : Parts) → answer ≡ Ok x → HasPrecision f.precision (value f.precision x)
+answer_precise f s rn rounds u answer a x e =
+    let R = rounds f.precision s.some_digit in
+    subst (λ (z : Parts). HasPrecision f.precision (value f.precision z)) (accepted f (rn f.precision u) x (zero_form f s (rn f.precision) R u) (sym a.defined ∙ e)) (precise f s (rn f.precision) R u)
 
 -- ---- a step on x + y, given a value t that is rounded like the sum of values equal to them
 pub record SumAnswers (f : Format) (rn : ℕ → Exact → Parts) (x y : Exact) (answer : Result Parts RangeFault) : Type 0 where
@@ -106,13 +107,13 @@ pub record SumAnswers (f : Format) (rn : ℕ → Exact → Parts) (x y : Exact) 
   pub rightly_rounded : RightlyRounded f (x ⊞ y) answer
   pub loss_has_precision : HasPrecision f.precision x → HasPrecision f.precision y → LossHasPrecision f (x ⊞ y) answer
 
-pub sum_answers : (f : Format) → (rn : ℕ → Exact → Parts) → ((p : ℕ) → 0 < p → Rounding p (rn p)) → (t x' y' x y : Exact) → x' ≈ x → y' ≈ y → RoundAlike 24 t (x' ⊞ y') → (answer : Result Parts RangeFault) → answer ≡ stepped f rn t → SumAnswers f rn x y answer
-sum_answers f rn rounds t x' y' x y hx hy h answer e =
-    let a = answers f rn rounds t (x ⊞ y) (alike_same 24 t (x' ⊞ y') (x ⊞ y) (plus_like x' y' x y hx hy) h) answer e in
+pub sum_answers : (f : Format) → Sound f → (rn : ℕ → Exact → Parts) → ((p : ℕ) → 0 < p → Rounding p (rn p)) → (t x' y' x y : Exact) → x' ≈ x → y' ≈ y → RoundAlike 24 t (x' ⊞ y') → (answer : Result Parts RangeFault) → answer ≡ stepped f rn t → SumAnswers f rn x y answer
+sum_answers f s rn rounds t x' y' x y hx hy h answer e =
+    let a = answers f s rn rounds t (x ⊞ y) (alike_same 24 t (x' ⊞ y') (x ⊞ y) (plus_like x' y' x y hx hy) h) answer e in
     record {
       defined = a.defined;
       rightly_rounded = a.rightly_rounded;
-      loss_has_precision = λ px py z q. sum_error_precise f.precision f.some_digit x y (value f.precision z) px py (answer_precise f rn rounds (x ⊞ y) answer a z q) (a.rightly_rounded.nearest z q);
+      loss_has_precision = λ px py z q. sum_error_precise f.precision s.some_digit x y (value f.precision z) px py (answer_precise f s rn rounds (x ⊞ y) answer a z q) (a.rightly_rounded.nearest z q);
     }
 
 -- ---- a rule's answer has the form of a number

@@ -4,6 +4,7 @@ use lib.Arith.{digits_lt}
 use borrow.Author.Differences.{ints}
 use Rattle.std.proofs.lemmas.Bool.{lt-leb, ne_eqb, or_from, cond-false}
 use Rattle.exact.specs.Parts.{Parts, parts}
+use Rattle.arith.specs.Format.{Sound}
 use Rattle.arith.specs.declared.format.Format.{Format}
 use Rattle.arith.specs.Pattern.{sign_bit, exponent_field, fraction, invalid, decoded, encoded}
 use Rattle.arith.proofs.Formats.{leading_one, exponents, sign_place, significands, unsigned, signed}
@@ -45,7 +46,7 @@ module _ (e : ℤ) (emax : ℕ) (low : (pos 1 -ℤ pos emax) ≤ℤ e) where
   same_exponent = omega (arith, ints)
 
 -- ---- a number of the format that is not zero
-module _ (f : Format) (x : Parts) (some : 0 < x.significand) (short : x.significand < 2 ^ f.precision) (full : 2 ^ f.precision ≤ 2 * x.significand) (low : (pos 1 -ℤ pos f.emax) ≤ℤ x.exponent) (high : x.exponent ≤ℤ pos f.emax) where
+module _ (f : Format) (s : Sound f) (x : Parts) (some : 0 < x.significand) (short : x.significand < 2 ^ f.precision) (full : 2 ^ f.precision ≤ 2 * x.significand) (low : (pos 1 -ℤ pos f.emax) ≤ℤ x.exponent) (high : x.exponent ≤ℤ pos f.emax) where
   abbrev d : ℕ
   d = digit x.negative
 
@@ -62,7 +63,7 @@ module _ (f : Format) (x : Parts) (some : 0 < x.significand) (short : x.signific
   encoded_is = cond-false (eqb x.significand 0) _ _ (not_zero x.significand some) ∙ placed x.negative (sign_place f) (q * leading_one f) t
 
   finite : q < exponents f - 1
-  finite = finite_field x.exponent f.emax low (exponents f) f.fields_for_range high
+  finite = finite_field x.exponent f.emax low (exponents f) s.fields_for_range high
 
   field_fits : q < exponents f
   field_fits = below q (exponents f) finite
@@ -71,17 +72,17 @@ module _ (f : Format) (x : Parts) (some : 0 < x.significand) (short : x.signific
       below q b h = omega arith
 
   fraction_fits : t < leading_one f
-  fraction_fits = short_fraction x.significand (leading_one f) (2 ^ f.precision) (significands f) short
+  fraction_fits = short_fraction x.significand (leading_one f) (2 ^ f.precision) (significands f s) short
 
   sign_is : sign_bit f n ≡ x.negative
-  sign_is = ap (λ k. eqb k 1) (highest (unsigned f) field_fits fraction_fits d) ∙ same_sign x.negative
+  sign_is = ap (λ k. eqb k 1) (highest (unsigned f s) field_fits fraction_fits d) ∙ same_sign x.negative
 
   significand_is : leading_one f + fraction f n ≡ x.significand
   significand_is =
-      ap (λ k. leading_one f + k) (lowest (unsigned f) field_fits fraction_fits d) ∙ same_significand x.significand (leading_one f) (2 ^ f.precision) (significands f) full
+      ap (λ k. leading_one f + k) (lowest (unsigned f s) field_fits fraction_fits d) ∙ same_significand x.significand (leading_one f) (2 ^ f.precision) (significands f s) full
 
   field_is : exponent_field f n ≡ q
-  field_is = middle (unsigned f) field_fits fraction_fits d
+  field_is = middle (unsigned f s) field_fits fraction_fits d
 
   exponent_is : pos (exponent_field f n) -ℤ pos f.emax ≡ x.exponent
   exponent_is = ap (λ k. pos k -ℤ pos f.emax) field_is ∙ same_exponent x.exponent f.emax low
@@ -92,7 +93,7 @@ module _ (f : Format) (x : Parts) (some : 0 < x.significand) (short : x.signific
       (ne_eqb (exponent_field f n) (exponents f - 1) (λ e. apart q (exponents f - 1) finite (sym field_is ∙ e)))
     where
       narrow : n < 2 ^ f.width
-      narrow = subst (λ k. n < k) (sym (signed f)) (digits_lt (short_digit x.negative) (two_lower (unsigned f) field_fits fraction_fits))
+      narrow = subst (λ k. n < k) (sym (signed f s)) (digits_lt (short_digit x.negative) (two_lower (unsigned f s) field_fits fraction_fits))
 
       apart : (x y : ℕ) → x < y → x ≡ y → ⊥
       apart x y h e = omega arith

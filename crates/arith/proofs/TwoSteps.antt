@@ -10,6 +10,7 @@ use Rattle.arith.specs.Step.{stepped, RightlyRounded}
 use Rattle.arith.specs.declared.complex.Complex.{Complex}
 use Rattle.arith.specs.declared.fault.RangeFault.{RangeFault}
 use Rattle.arith.specs.declared.fault.StepFault.{StepFault}
+use Rattle.arith.specs.Format.{Sound}
 use Rattle.arith.specs.declared.format.Format.{Format}
 use Rattle.arith.proofs.Range.{answers}
 
@@ -32,14 +33,14 @@ second (Ok re) (Ok im) d e = absurd (grind arith)
 second (Ok re) (Err c) d e = ((re, refl), grind arith)
 second (Err c) b d e = absurd (grind arith)
 
-pub both_rightly : (f : Format) → (rn : ℕ → Exact → Parts) → ((p : ℕ) → 0 < p → Rounding p (rn p)) → (t u : Exact) (answer : Result (Complex Parts) StepFault) → answer ≡ two_steps f rn t u → BothRightlyRounded f t u answer
-both_rightly f rn rounds t u answer d = record { accepted = accepted; refused_first = refused_first; refused_second = refused_second }
+pub both_rightly : (f : Format) → Sound f → (rn : ℕ → Exact → Parts) → ((p : ℕ) → 0 < p → Rounding p (rn p)) → (t u : Exact) (answer : Result (Complex Parts) StepFault) → answer ≡ two_steps f rn t u → BothRightlyRounded f t u answer
+both_rightly f s rn rounds t u answer d = record { accepted = accepted; refused_first = refused_first; refused_second = refused_second }
   where
     real : RightlyRounded f t (stepped f rn t)
-    real = (answers f rn rounds t t (same_alike 24 t t refl) (stepped f rn t) refl).rightly_rounded
+    real = (answers f s rn rounds t t (same_alike 24 t t refl) (stepped f rn t) refl).rightly_rounded
 
     imaginary : RightlyRounded f u (stepped f rn u)
-    imaginary = (answers f rn rounds u u (same_alike 24 u u refl) (stepped f rn u) refl).rightly_rounded
+    imaginary = (answers f s rn rounds u u (same_alike 24 u u refl) (stepped f rn u) refl).rightly_rounded
 
     accepted : (z : Complex Parts) → answer ≡ Ok z → RightlyRounded f t (Ok z.re) × RightlyRounded f u (Ok z.im)
     accepted z e = let (re, im) = both (stepped f rn t) (stepped f rn u) z (sym d ∙ e) in (subst (RightlyRounded f t) re real, subst (RightlyRounded f u) im imaginary)

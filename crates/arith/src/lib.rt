@@ -16,7 +16,7 @@ mod term;
 
 pub use complex::Complex;
 pub use fault::{RangeFault, StepFault};
-pub use format::{Bfloat16, Binary16, Binary32, Format, NamedFormat};
+pub use format::{Bfloat16, Binary16, Binary32, Format, NamedFormat, precision};
 pub use number::Number;
 pub use pattern::PatternFault;
 pub use steps::{step, step_difference, step_sum, step_term};

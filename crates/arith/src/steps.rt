@@ -7,20 +7,19 @@ ghost use Rattle.arith.specs.Step.{stepped, RightlyRounded, LossHasPrecision};
 ghost use Rattle.arith.specs.Term.{term_value, scaled_term};
 
 use crate::fault::RangeFault;
-use crate::format::NamedFormat;
+use crate::format::{NamedFormat, precision};
 use crate::number::Number;
 use crate::of_format::OfFormat;
 use crate::term::Term;
-use rounding::{Addend, Precision, Rule, Unrounded};
+use rounding::{Addend, Rule, Unrounded};
 use std::marker::PhantomData;
 
 // One step by its definition: the value is rounded, and then its range is looked at. A zero is a result.
 fn round_and_judge<F: NamedFormat, R: Rule>(t: Unrounded) -> Result<Number<F>, RangeFault>
     ensures { parts_by result ≡ stepped F.format R.Rule.rn (exact_value t) }
 {
-    let format = F::format();
-    let (significand, exponent) = R::round(Precision::from(format), t);
-    let emax = format.emax as i32;
+    let (significand, exponent) = R::round(precision::<F>(), t);
+    let emax = F::format().emax as i32;
     if significand == 0 {
         return Ok(Number::zero());
     }

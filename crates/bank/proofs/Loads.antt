@@ -4,6 +4,7 @@ use Rattle.std.specs.Result.{result_map_both}
 use Rattle.exact.specs.Parts.{Parts}
 use Rattle.arith.specs.Pattern.{decoded, encoded, plain_zero}
 use Rattle.arith.specs.Sequence.{and_then}
+use Rattle.arith.specs.Format.{Sound}
 use Rattle.arith.specs.declared.format.Format.{Format}
 use Rattle.arith.specs.declared.pattern.PatternFault.{PatternFault}
 use Rattle.arith.proofs.Accepted.{accepted}
@@ -15,9 +16,9 @@ use Rattle.bank.specs.declared.fault.Fault.{Fault}
 use Rattle.bank.specs.declared.fault.Fault.TheVariants.{NoSuchPlace, Pattern}
 use Rattle.bank.specs.declared.store.Shown.{Shown}
 
-module _ (f : Format) where
+module _ (f : Format) (s : Sound f) where
   encoded_again : (n : ℕ) (x : Parts) → decoded f n ≡ Ok x → encoded f x ≡ plain_zero f n
-  encoded_again n x e = numbers.shown f n x (accepted f n x e)
+  encoded_again n x e = numbers.shown f s n x (accepted f n x e)
 
   -- an accepted load is one of a place that is there, and puts a slot into it that shows the two patterns
   pub loaded_shows : (d m n : ℕ) → IfOk (loaded f d m n) (λ t. (ltb 15 d ≡ false) × (shown_of f t ≡ Ok (patterns (plain_zero f m) (plain_zero f n) 0)))

@@ -1,10 +1,11 @@
 // Plays example tapes and says of each whether it printed what it should: data/NAME.hex is a tape as hexadecimal text,
-// and data/NAME.out what it prints. Then tapes of the greatest length, and line buffers of the least.
+// and data/NAME.out what it prints. Then tapes of the greatest length, line buffers of the least, and answers that a caller keeps.
 #![tactic(auto)]
 
-use arith::{Bfloat16, Binary16, Binary32, Complex, NamedFormat, Number, Term};
+use arith::{Bfloat16, Binary16, Binary32, Complex, Format, NamedFormat, Number, Term};
 use bank::Bank;
-use run::{AfterRecord, FreshRun, NoRoom, OpenedRun, Refused};
+use records::{Frame, Record, RecordFault};
+use run::{AfterRecord, FreshRun, NoRoom, OpenedRun, Refusal, Refused};
 use std::alloc::{AllocError, Global};
 use std::io::Write;
 use std::{fs, io};
@@ -193,6 +194,93 @@ fn check_refusing(rt: &HostRuntime, tape: &[u8]) -> io::Result<()> {
     println!(rt; "refusing with 96 bytes: a line of {line} bytes, {touched} bytes written")
 }
 
+// A caller's own answer with a run in it: the run behind its first record and the length of that record's line, or none where the first
+// record is refused.
+fn opened_of<'a>(
+    tape: &'a [u8],
+    buffer: &mut [u8],
+) -> Result<Option<(OpenedRun<'a>, usize)>, Refusal> {
+    let fresh = FreshRun::new(tape)?;
+    let opening = fresh.open(buffer);
+    match opening {
+        Ok((AfterRecord::Running(run), line)) => Ok(Some((run, line))),
+        Ok((AfterRecord::Ended(_), _)) => Ok(None),
+        Err(no_room) => Err(no_room.refusal),
+    }
+}
+
+// Opens a run and takes a record. Here and in the next two each answer is kept in a variable and then taken apart by one pattern, as
+// callers may do it.
+fn check_kept(rt: &HostRuntime, tape: &[u8]) -> io::Result<()> {
+    let mut buffer = [170u8; 96];
+    let mut bank = Bank::<Binary16>::new();
+    let opened = opened_of(tape, &mut buffer);
+    let Ok(Some((run, line))) = opened else {
+        return println!(rt; "not opened");
+    };
+    println!(rt; "opened by a line of {line} bytes")?;
+    let untaken = run.take_record(&mut bank, &mut [170u8; 95]);
+    let Err(NoRoom { run, refusal }) = untaken else {
+        return println!(rt; "taken without room");
+    };
+    let number = refusal.number();
+    println!(rt; "no room: {number}")?;
+    let taken = run.take_record(&mut bank, &mut buffer);
+    match taken {
+        Ok((AfterRecord::Running(_), line)) => println!(rt; "taken with a line of {line} bytes"),
+        Ok((AfterRecord::Ended(ended), line)) => {
+            let records = ended.records();
+            println!(rt; "ended with a line of {line} bytes, the last of {records}")
+        }
+        Err(_) => println!(rt; "no room"),
+    }
+}
+
+// What the record at the front of some bytes asks for.
+fn check_record(rt: &HostRuntime, bytes: &[u8]) -> io::Result<()> {
+    let Ok(frame) = Frame::first(bytes) else {
+        return println!(rt; "no whole record");
+    };
+    let record = records::read_record::<Binary16>(frame);
+    match record {
+        Ok(Record::Load { place, re, im }) => {
+            let re = re.number();
+            let im = im.number();
+            println!(rt; "a load of {re} and {im} into {place}")
+        }
+        Ok(Record::Show { place }) => println!(rt; "a show of {place}"),
+        Ok(Record::Note { text }) => {
+            let bytes = text.bytes.len();
+            println!(rt; "a note of {bytes} bytes")
+        }
+        Ok(Record::End) => println!(rt; "an end"),
+        Err(e) => {
+            let number = e.number();
+            println!(rt; "refused: {number}")
+        }
+    }
+}
+
+// The format that the record at the front of some bytes names, if it is an opening record, and the bytes behind it.
+fn format_of<'a>(bytes: &'a [u8]) -> Result<Option<(Format, &'a [u8])>, RecordFault> {
+    let frame = Frame::first(bytes)?;
+    let Ok(codes) = records::read_opening(frame) else {
+        return Ok(None);
+    };
+    let format = Format::of_code(u8::from(codes.format));
+    Ok(Some((format, &bytes[4 + frame.payload.len()..])))
+}
+
+fn check_format(rt: &HostRuntime, bytes: &[u8]) -> io::Result<()> {
+    let named = format_of(bytes);
+    let Ok(Some((format, behind))) = named else {
+        return println!(rt; "no format");
+    };
+    let width = format.width;
+    let left = behind.len();
+    println!(rt; "patterns of {width} bits, {left} bytes behind")
+}
+
 // Called at what is Send and Sync. (It has nothing to do: that it is called at a type is the check.)
 fn may_cross<T: Send + Sync>(_value: &T) {}
 
@@ -256,5 +344,15 @@ fn main(rt: HostRuntime) -> io::Result<()> {
         None => println!(rt; "not opened")?,
     }
     check_refusing(&rt, &[0u8; 65537])?;
-    check_line(&rt, &[2, 0, 1, 0, 1, 1, 0, 0, 8, 0])
+    check_line(&rt, &[2, 0, 1, 0, 1, 1, 0, 0, 8, 0])?;
+    check_kept(&rt, &[2, 0, 1, 0, 1, 1, 1, 0, 6, 0, 3])?;
+    check_kept(&rt, &[2, 0, 1, 0, 1, 1, 0, 0, 8, 0])?;
+    check_kept(&rt, &[0, 0, 8, 0])?;
+    check_record(&rt, &[5, 0, 2, 0, 3, 0, 0x3C, 1, 0x3C])?;
+    check_record(&rt, &[1, 0, 6, 0, 3])?;
+    check_record(&rt, &[2, 0, 7, 0, 65, 66])?;
+    check_record(&rt, &[0, 0, 8, 0])?;
+    check_record(&rt, &[0, 0, 3, 0])?;
+    check_format(&rt, &[2, 0, 1, 0, 3, 1, 0, 0, 8, 0])?;
+    check_format(&rt, &[0, 0, 8, 0])
 }

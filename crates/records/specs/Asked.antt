@@ -1,5 +1,5 @@
 -- What a whole record asks for, or why it is refused: its kind is judged first, then its order, its length, and its payload.
-use Rattle.std.specs.Prelude.{◌≡◌, ℕ, ◌+◌, Bool, cond, List, length, take, drop, Ok, Err, Result, ◌==◌, slice_index}
+use Rattle.std.specs.Prelude.{◌≡◌, ℕ, ◌+◌, ◌≤◌, Bool, true, cond, List, length, take, drop, Ok, Err, Result, ◌==◌, slice_index}
 use Rattle.std.specs.Borrow.{Bor}
 use Rattle.arith.specs.Sequence.{and_then}
 use Rattle.arith.specs.declared.format.Format.{Format}
@@ -79,3 +79,17 @@ PartOf f p (records.Load d re im) = Part p re.bytes 1 (pattern_bytes f) × Part 
 PartOf f p (records.Show d) = Unit {0}
 PartOf f p (records.Note t) = t.bytes ≡ p
 PartOf f p records.End = Unit {0}
+
+-- a pattern has at most four bytes, and a text at most 64
+abbrev pub Fits : Record → Type 0
+Fits (records.Load d re im) = (length re.bytes.now ≤ 4) × (length im.bytes.now ≤ 4)
+Fits (records.Show d) = Unit {0}
+Fits (records.Note t) = length t.bytes.now ≤ 64
+Fits records.End = Unit {0}
+
+-- a text is printable
+abbrev pub IsText : Record → Type 0
+IsText (records.Load d re im) = Unit {0}
+IsText (records.Show d) = Unit {0}
+IsText (records.Note t) = printable t.bytes.now ≡ true
+IsText records.End = Unit {0}

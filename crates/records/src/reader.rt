@@ -3,7 +3,7 @@ ghost use Rattle.std.specs.Prelude.{◌≡◌, IfOk};
 ghost use Rattle.std.specs.Result.{result_err};
 ghost use Rattle.records.specs.Bytes.{printable};
 ghost use Rattle.records.specs.Frames.{contents};
-ghost use Rattle.records.specs.Asked.{asked, opening, asking, PartOf};
+ghost use Rattle.records.specs.Asked.{asked, opening, asking, PartOf, Fits, IsText};
 ghost use Rattle.records.specs.Questions.{first_no, opening_questions, later_questions};
 
 use crate::codes::{Codes, FormatCode, MethodCode};
@@ -39,6 +39,8 @@ pub fn read_opening(first: Frame<'_>) -> Result<Codes, RecordFault>
 pub fn read_record<F: NamedFormat>(whole: Frame<'_>) -> Result<Record<'_>, RecordFault>
     ensures asks { asking result ≡ asked F.format (contents whole.entry) }
     ensures part_of_tape { IfOk result (PartOf F.format whole.entry.payload) }
+    ensures fits { IfOk result Fits }
+    ensures is_text { IfOk result IsText }
     ensures in_turn { result_err (asking result) ≡ first_no (later_questions F.format (contents whole.entry)) }
 {
     let size = F::format().width as usize / 8;

@@ -1,5 +1,5 @@
 -- The line of each record: its number, a word, and fields with single spaces between them, ended by byte 10.
-use Rattle.std.specs.Prelude.{ℕ, ◌/◌, List, [], ◌∷◌, ◌++◌, codes, decimal}
+use Rattle.std.specs.Prelude.{ℕ, ◌/◌, ◌≤◌, List, [], ◌∷◌, ◌++◌, length, codes, decimal}
 use Rattle.arith.specs.declared.format.Format.{Format}
 use Rattle.bank.specs.declared.store.Shown.{Shown}
 use Rattle.records.specs.Codes.{format_number, method_number}
@@ -72,3 +72,10 @@ done_by (replies.Loaded d) = loaded_at d
 done_by (replies.Shown d s) = shown_at d s
 done_by (replies.Noted t) = noted t.bytes.now
 done_by replies.Ended = ended
+
+-- a note has at most 64 bytes, so that its line fits
+abbrev pub ShortText : Reply → Type 0
+ShortText (replies.Loaded d) = Unit {0}
+ShortText (replies.Shown d s) = Unit {0}
+ShortText (replies.Noted t) = length t.bytes.now ≤ 64
+ShortText replies.Ended = Unit {0}

@@ -1,5 +1,5 @@
 -- Where making, opening and taking lead a run.
-use Rattle.std.specs.Prelude.{◌≡◌, ℕ, ◌+◌, true, false, cond, List, length, drop, is_err, Ok, Err, Result, nat_lt}
+use Rattle.std.specs.Prelude.{◌≡◌, ℕ, ◌+◌, ◌≤◌, min, true, false, cond, List, length, drop, is_err, Ok, Err, Result, nat_lt}
 use Rattle.std.specs.Borrow.{Bor}
 use Rattle.arith.specs.Sequence.{and_then}
 use Rattle.arith.specs.declared.format.Format.{Format}
@@ -42,11 +42,23 @@ abbrev pub taken_from : Result (Frame × Window) RecordFault → Result Framed R
 taken_from (Ok r) = Ok (contents r.0)
 taken_from (Err e) = Err e
 
+-- the number of the record behind; the largest number stays
+abbrev pub number_behind : ℕ → ℕ
+number_behind n = min (n + 1) 4294967295
+
+-- a window over a tape that is not too long, within it, which has counted no more records than bytes
+pub record InTape (w : Window) : Type 0 where
+  pub short : length w.tape.now ≤ 65536
+  pub within : w.at ≤ length w.tape.now
+  pub counted : w.number ≤ w.at
+
 -- the window behind that record, with its number
 pub record IsBehind (w behind : Window) : Type 0 where
   pub lent : behind.tape ≡ w.tape
   pub at : behind.at ≡ w.at + bytes_of (front (left w))
-  pub number : behind.number ≡ w.number + 1
+  pub within : behind.at ≤ length behind.tape.now
+  pub number : behind.number ≡ number_behind w.number
+  pub stays_in_tape : InTape w → InTape behind
 
 -- a line buffer has at least 96 bytes
 abbrev pub room_for : ℕ → Result (Unit {0}) Refusal
@@ -73,7 +85,9 @@ pub record Opened (run : FreshRun) (o : OpenedRun) : Type 0 where
   pub codes : first run.tape.now ≡ Ok o.codes
   pub lent : o.window.tape ≡ run.tape
   pub at : o.window.at ≡ bytes_of (front run.tape.now)
+  pub within : o.window.at ≤ length o.window.tape.now
   pub number : o.window.number ≡ 1
+  pub in_tape : length run.tape.now ≤ 65536 → InTape o.window
 
 -- the first record is refused
 pub record NotOpened (run : FreshRun) (e : EndedRun) : Type 0 where
@@ -98,7 +112,7 @@ Opens run before after (Err e) = Untouched run e before after
 -- ---- taking a record, with a bank of the format f whose places hold ps before and qs after
 -- the number of the next record
 abbrev pub next_number : OpenedRun → ℕ
-next_number run = run.window.number + 1
+next_number run = number_behind run.window.number
 
 -- the next record, or the refusal of a missing part
 abbrev pub next_record : OpenedRun → Result Framed RecordFault

@@ -125,7 +125,8 @@ impl Line {
 
     // A note's text with a space in front, or nothing where there is no text.
     pub(crate) fn push_text(&mut self, text: NoteText<'_>)
-        requires { length self.old + 65 ≤ 96 }
+        requires room { length self.old + 65 ≤ 96 }
+        requires fits { length text.bytes.now ≤ 64 }
         ensures text { self.new ≡ self.old ++ text_field text.entry.bytes.now }
         ensures short { length self.new ≤ length self.old + 65 }
     {

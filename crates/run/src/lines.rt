@@ -1,6 +1,6 @@
 // The lines of records: of an accepted one, of the opening one, and of a refused one.
-ghost use Rattle.std.specs.Prelude.{◌≡◌, ◌+◌, ◌≤◌, ◌++◌, length, Ok, Err, MatchResult};
-ghost use Rattle.run.specs.Lines.{start, open_line, done_line, done_word, done_fields, refusal_line, done_by};
+ghost use Rattle.std.specs.Prelude.{◌≡◌, ◌+◌, ◌≤◌, ◌++◌, length, IfOk, Ok, Err, MatchResult};
+ghost use Rattle.run.specs.Lines.{start, open_line, done_line, done_word, done_fields, refusal_line, done_by, ShortText};
 ghost use Rattle.run.specs.States.{room_for};
 ghost use Rattle.run.specs.Text.{Wrote};
 ghost use Rattle.run.specs.Turns.{line_by, replied};
@@ -40,6 +40,7 @@ pub(crate) fn open_line(number: u32, codes: Codes) -> Line
 impl Reply<'_> {
     // Puts the line of an accepted record behind the opening one into a line, in place of what it held, but for the byte that ends it.
     fn begin<F: NamedFormat>(self, number: u32, line: &mut Line)
+        requires { ShortText self }
         ensures text { line.new ≡ start number (done_word (done_by self.entry)) ++ done_fields F.format (done_by self.entry) }
         ensures short { length line.new ≤ 80 }
     {
@@ -65,6 +66,7 @@ impl Reply<'_> {
 
     // The whole line, likewise.
     fn put<F: NamedFormat>(self, number: u32, line: &mut Line)
+        requires { ShortText self }
         ensures { line.new ≡ done_line F.format number (done_by self.entry) }
     {
         self.begin::<F>(number, line);
@@ -79,6 +81,7 @@ pub(crate) fn put_answer<F: NamedFormat>(
     number: u32,
     line: &mut Line,
 )
+    requires { IfOk answer ShortText }
     ensures { line.new ≡ line_by F.format number (replied answer.entry) }
 {
     match answer {

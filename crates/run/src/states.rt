@@ -1,26 +1,21 @@
 // The states of a run. Each call moves a run from one state into the next, so that no state can be used twice.
-ghost use Rattle.std.specs.Prelude.{◌≤◌, length};
-
 use crate::refusal::Refusal;
 use records::Codes;
 
 // The tape as it was lent, the place reached on it, and the number of the last record. It is a tape and a place, and not the bytes that
-// are left, since a run promises to keep the tape as it was lent.
+// are left, since a run promises to keep the tape as it was lent. That the place lies within the tape and the number is no larger is said by
+// the calls (InTape) and not here: docs/DECISIONS.md, 'Facts about a run', has the reason.
 #[derive(Drop)]
 pub struct Window<'a> {
     pub(crate) tape: &'a [u8],
     pub(crate) at: usize,
     pub(crate) number: u32,
-    pub ghost short: { length tape.now ≤ 65536 },
-    pub ghost within: { at ≤ length tape.now },
-    pub ghost counted: { number ≤ at },
 }
 
 // No record was read yet from the tape, as it was lent.
 #[derive(Drop)]
 pub struct FreshRun<'a> {
     pub(crate) tape: &'a [u8],
-    pub ghost short: { length tape.now ≤ 65536 },
 }
 
 // The opening record was accepted, with these codes.

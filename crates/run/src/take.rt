@@ -1,10 +1,11 @@
 // Making a run, opening it by its first record, and taking one record after another.
 ghost use Rattle.std.specs.Prelude.{◌≡◌, ◌+◌, ◌≤◌, true, length, is_err, IfOk, Err, MatchResult};
 ghost use Rattle.bank.specs.Views.{holds};
-ghost use Rattle.records.specs.Asked.{asked, asked_for};
+ghost use Rattle.records.specs.Asked.{asked, asked_for, Fits};
 ghost use Rattle.records.specs.Frames.{contents, front};
+ghost use Rattle.run.specs.Lines.{ShortText};
 ghost use Rattle.run.specs.Turns.{obeyed, places_by, replied, answered, places_if, outcome, line_of, places_of};
-ghost use Rattle.run.specs.States.{left, short_tape, Starts, Opened, OpensTo, Opens, LeadsTo, Takes, first, first_line, next_number, next_record, taken_from, IsBehind};
+ghost use Rattle.run.specs.States.{left, short_tape, Starts, Opened, OpensTo, Opens, LeadsTo, Takes, first, first_line, next_number, next_record, taken_from, number_behind, IsBehind};
 
 use crate::line::Line;
 use crate::lines::{open_line, put_answer, with_room};
@@ -17,8 +18,10 @@ use records::{Codes, Frame, Record, RecordFault};
 
 // What the bank makes of a record.
 fn obey<'a, F: NamedFormat>(bank: &mut Bank<F>, asks: Record<'a>) -> Result<Reply<'a>, Refusal>
+    requires { Fits asks }
     ensures answer { replied result ≡ obeyed F.format (holds bank.old) (asked_for asks.entry) }
     ensures places { holds bank.new ≡ places_by F.format (holds bank.old) (asked_for asks.entry) }
+    ensures short { IfOk result ShortText }
 {
     match asks {
         Record::Load { place, re, im } => {
@@ -38,17 +41,26 @@ fn obey<'a, F: NamedFormat>(bank: &mut Bank<F>, asks: Record<'a>) -> Result<Repl
 fn answer<'a, F: NamedFormat>(bank: &mut Bank<F>, whole: Frame<'a>) -> Result<Reply<'a>, Refusal>
     ensures answer { replied result ≡ answered F.format (holds bank.old) (asked F.format (contents whole.entry)) }
     ensures places { holds bank.new ≡ places_if F.format (holds bank.old) (asked F.format (contents whole.entry)) }
+    ensures short { IfOk result ShortText }
 {
     let record = records::read_record::<F>(whole)?;
     obey(bank, record)
 }
 
 impl<'a> Window<'a> {
-    // The bytes from the place reached on.
+    // The bytes from the place reached on; none behind the end.
+    #[tactic(auto, using(std::proofs::lemmas::List::drop_min))]
     fn left(&self) -> &'a [u8]
         ensures { result.now ≡ left self.now }
     {
-        &self.tape[self.at..]
+        &self.tape[self.at.min(self.tape.len())..]
+    }
+
+    // The number of the record at the place reached.
+    fn next_number(&self) -> u32
+        ensures { result ≡ number_behind self.now.number }
+    {
+        self.number.saturating_add(1)
     }
 
     // The record at the place reached, and the window behind it.
@@ -60,7 +72,7 @@ impl<'a> Window<'a> {
         let behind = Window {
             tape: self.tape,
             at: self.at + 4 + frame.payload.len(),
-            number: self.number + 1,
+            number: self.next_number(),
         };
         Ok((frame, behind))
     }
@@ -143,7 +155,7 @@ impl<'a> OpenedRun<'a> {
         ensures refused_changes_nothing { is_err (outcome F.format (holds bank.old) (next_record self.entry)) ≡ true → holds bank.new ≡ holds bank.old }
     {
         let OpenedRun { window, codes } = self;
-        let number = window.number + 1;
+        let number = window.next_number();
         let ended = AfterRecord::Ended(EndedRun { records: number });
         match window.record() {
             Ok((frame, window)) => {

@@ -4,6 +4,7 @@ use lib.ListN.{get_or-replicate}
 use Rattle.std.proofs.lemmas.Bool.Decides.{nat_tests}
 use Rattle.std.proofs.lemmas.Result.{IfOk-weaker}
 use Rattle.arith.specs.Sequence.{and_then}
+use Rattle.arith.specs.Format.{Sound}
 use Rattle.arith.specs.declared.format.Format.{Format}
 use Rattle.bank.proofs.Loads.{loaded_shows}
 use Rattle.bank.specs.Calls.{loaded, written, shown_of, shown}
@@ -15,13 +16,13 @@ use Rattle.run.specs.Turns.{places_if}
 use Rattle.tape.specs.Reading.{Read, PatternPair, load_asked, later, last_load, loaded_shown, shown_last}
 use Rattle.tape.proofs.After.{places_after}
 
-module _ (f : Format) where
+module _ (f : Format) (s : Sound f) where
   -- a slot that shows the patterns m and n, as they are shown after a load
   abbrev Shows : ℕ → ℕ → Slot → Type 0
   Shows m n t = shown_of f t ≡ loaded_shown f (Some (record { re = m; im = n }))
 
   shows : (p m n : ℕ) → IfOk (loaded f p m n) (Shows m n)
-  shows p m n = IfOk-weaker (loaded f p m n) _ _ (λ t h. h.1) (loaded_shows f p m n)
+  shows p m n = IfOk-weaker (loaded f p m n) _ _ (λ t h. h.1) (loaded_shows f s p m n)
 
   module _ (d : ℕ) where
     -- ---- the place d is there, and what it holds is shown as the last load of it, if there is one
@@ -48,7 +49,7 @@ module _ (f : Format) where
     after_records [] h = h
     after_records (r ∷ rs) h = after_records rs (after_record (and_then r (asked f)) h)
 
-pub shown_last_lem : (f : Format) (rs : List Read) (d : ℕ) → shown f (places_after f fresh rs) d ≡ shown_last f d (last_load f d None rs)
-shown_last_lem f rs d =
-    let known = λ (h : d < 16). (after_records f d rs (at_first f d h)).same in
+pub shown_last_lem : (f : Format) → Sound f → (rs : List Read) (d : ℕ) → shown f (places_after f fresh rs) d ≡ shown_last f d (last_load f d None rs)
+shown_last_lem f s rs d =
+    let known = λ (h : d < 16). (after_records f s d rs (at_first f s d h)).same in
     grind (arith, nat_tests, known)

@@ -4,7 +4,7 @@ use Rattle.std.proofs.lemmas.List.{drop-drop}
 use Rattle.arith.specs.declared.format.Format.{Format}
 use Rattle.bank.specs.Slots.{Slot}
 use Rattle.records.specs.Frames.{front}
-use Rattle.run.specs.States.{left, IsBehind, next_number, next_record, GoesOn}
+use Rattle.run.specs.States.{left, InTape, IsBehind, next_number, next_record, GoesOn}
 use Rattle.run.specs.Turns.{line_of, places_of, ends_of, bytes_of}
 use Rattle.run.specs.declared.states.OpenedRun.{OpenedRun}
 use Rattle.run.specs.declared.states.Window.{Window}
@@ -49,9 +49,14 @@ module _ (f : Format) (run : OpenedRun) (ps : List Slot) where
   pub run_last : ends_of f ps (next_record run) ≡ true → lines_from f ps (next_number run) (left run.window) ≡ line_of f ps (next_number run) (next_record run)
   run_last ends = lines_last f ps (next_number run) (left run.window) ends
 
-  -- a run that goes on
-  module _ (next : OpenedRun) (goes_on : GoesOn f run ps next) where
+  -- a run that goes on, whose number does not come to its limit
+  module _ (next : OpenedRun) (goes_on : GoesOn f run ps next) (inside : InTape run.window) where
+    counts_on : next_number next ≡ next_number run + 1
+    counts_on =
+        let in_tape = goes_on.behind.stays_in_tape inside in
+        omega (arith, goes_on.behind.number, in_tape.counted, in_tape.within, in_tape.short)
+
     pub run_more : lines_from f ps (next_number run) (left run.window) ≡ line_of f ps (next_number run) (next_record run) ++ lines_from f (places_of f ps (next_record run)) (next_number next) (left next.window)
     run_more =
         lines_more f ps (next_number run) (left run.window) goes_on.goes
-        ∙ ap (λ l. line_of f ps (next_number run) (next_record run) ++ l) (ap₂ (λ m bs. lines_from f (places_of f ps (next_record run)) (m + 1) bs) (sym goes_on.behind.number) (sym (left_behind run.window next.window goes_on.behind)))
+        ∙ ap (λ l. line_of f ps (next_number run) (next_record run) ++ l) (ap₂ (lines_from f (places_of f ps (next_record run))) (sym counts_on) (sym (left_behind run.window next.window goes_on.behind)))

@@ -1,8 +1,8 @@
 // All lines of a tape.
-ghost use Rattle.std.specs.Prelude.{◌≡◌, ◌+◌, IfOk, OnOk};
+ghost use Rattle.std.specs.Prelude.{◌≡◌, ◌+◌, ◌≤◌, length, IfOk, OnOk};
 ghost use Rattle.bank.specs.Slots.{fresh};
 ghost use Rattle.bank.specs.Views.{holds};
-ghost use Rattle.run.specs.States.{left, first, next_number, next_record, LeadsTo};
+ghost use Rattle.run.specs.States.{left, first, next_number, next_record, InTape, LeadsTo};
 ghost use Rattle.run.specs.Turns.{line_of, places_of};
 ghost use Rattle.tape.specs.Added.{Adds, added};
 ghost use Rattle.tape.specs.Printed.{lines_from, format_in, run_lines, printed};
@@ -39,6 +39,7 @@ fn print_record<'a, F: NamedFormat>(
 
 // Takes records until the run ends, with a new bank of the format F.
 fn print_records<F: NamedFormat>(run: OpenedRun<'_>, out: &mut Vec<u8>) -> Result<(), AllocError>
+    requires { InTape run.window }
     ensures { Adds out.old out.new (lines_from F.format fresh (next_number run.entry) (left run.entry.window)) result }
 {
     let mut bank = Bank::<F>::new();
@@ -51,6 +52,7 @@ fn print_records<F: NamedFormat>(run: OpenedRun<'_>, out: &mut Vec<u8>) -> Resul
 
 // Prints the records of an opened run with a bank of its format. A value cannot choose a type but by a match like this one.
 fn print_opened(run: OpenedRun<'_>, out: &mut Vec<u8>) -> Result<(), AllocError>
+    requires { InTape run.window }
     ensures { Adds out.old out.new (lines_from (format_in run.entry.codes) fresh (next_number run.entry) (left run.entry.window)) result }
 {
     match run.codes().format {
@@ -62,6 +64,7 @@ fn print_opened(run: OpenedRun<'_>, out: &mut Vec<u8>) -> Result<(), AllocError>
 
 // The lines of a run that is not opened yet.
 fn print_run(run: FreshRun<'_>, out: &mut Vec<u8>) -> Result<(), AllocError>
+    requires { length run.tape.now ≤ 65536 }
     ensures { Adds out.old out.new (run_lines run.entry.tape.now) result }
 {
     let (next, line) = run.first_line();

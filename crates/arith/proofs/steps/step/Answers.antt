@@ -8,4 +8,4 @@ use Rattle.arith.proofs.steps.step.Goals as goal
 pub returns-clause-rightly_rounded : goal.returns-clause-rightly_rounded
 returns-clause-rightly_rounded g c =
     let t = exact_value c.args.t in
-    (answers g.F.NamedFormat.format g.R.Rule.rn g.met.R.Rule.rounds t t (same_alike 24 t t refl) (parts_by c.round_and_judge.result) c.round_and_judge.ensures).rightly_rounded
+    (answers g.F.NamedFormat.format g.met.F.NamedFormat.usable.sound g.R.Rule.rn g.met.R.Rule.rounds t t (same_alike 24 t t refl) (parts_by c.round_and_judge.result) c.round_and_judge.ensures).rightly_rounded

@@ -13,5 +13,5 @@ pub returns : goal.returns
 returns g c =
     let x = c.args.x in
     let y = c.args.y in
-    let a = sum_answers g.F.NamedFormat.format g.R.Rule.rn g.met.R.Rule.rounds (exact_value c.difference_of.result) (scaled_term x) (negated (scaled_term y)) (term_value x) (negated (term_value y)) (term_value_lem g.F.NamedFormat x) (negated_like (scaled_term y) (term_value y) (term_value_lem g.F.NamedFormat y)) c.difference_of.ensures (parts_by c.round_and_judge.result) c.round_and_judge.ensures in
+    let a = sum_answers g.F.NamedFormat.format g.met.F.NamedFormat.usable.sound g.R.Rule.rn g.met.R.Rule.rounds (exact_value c.difference_of.result) (scaled_term x) (negated (scaled_term y)) (term_value x) (negated (term_value y)) (term_value_lem g.F.NamedFormat x) (negated_like (scaled_term y) (term_value y) (term_value_lem g.F.NamedFormat y)) c.difference_of.ensures (parts_by c.round_and_judge.result) c.round_and_judge.ensures in
     record { defined = a.defined; rightly_rounded = a.rightly_rounded; loss_has_precision = λ hx hy. a.loss_has_precision hx (negated_precise g.F.NamedFormat.format.precision (term_value y) hy) }

@@ -9,5 +9,5 @@ pub returns : goal.returns
 returns g c =
     let x = c.args.x in
     let y = c.args.y in
-    let a = sum_answers g.F.NamedFormat.format g.R.Rule.rn g.met.R.Rule.rounds (exact_value c.sum_of.result) (scaled_term x) (scaled_term y) (term_value x) (term_value y) (term_value_lem g.F.NamedFormat x) (term_value_lem g.F.NamedFormat y) c.sum_of.ensures (parts_by c.round_and_judge.result) c.round_and_judge.ensures in
+    let a = sum_answers g.F.NamedFormat.format g.met.F.NamedFormat.usable.sound g.R.Rule.rn g.met.R.Rule.rounds (exact_value c.sum_of.result) (scaled_term x) (scaled_term y) (term_value x) (term_value y) (term_value_lem g.F.NamedFormat x) (term_value_lem g.F.NamedFormat y) c.sum_of.ensures (parts_by c.round_and_judge.result) c.round_and_judge.ensures in
     record { defined = a.defined; rightly_rounded = a.rightly_rounded; loss_has_precision = a.loss_has_precision }

@@ -17,9 +17,9 @@ returns g c =
     let x = c.args.x in
     let t = exact_value c.unrounded_of.result in
     let h = same_alike 24 t (term_value x) (subst (λ (z : Exact). z ≈ term_value x) (sym c.unrounded_of.ensures) (term_value_lem g.F.NamedFormat x)) in
-    let a = answers f rn g.met.R.Rule.rounds t (term_value x) h r c.round_and_judge.ensures in
+    let a = answers f g.met.F.NamedFormat.usable.sound rn g.met.R.Rule.rounds t (term_value x) h r c.round_and_judge.ensures in
     record {
       defined = a.defined;
       rightly_rounded = a.rightly_rounded;
-      loss_has_precision = λ z e. term_lost g.F.NamedFormat x (value f.precision z) (answer_precise f rn g.met.R.Rule.rounds (term_value x) r a z e) (a.rightly_rounded.nearest z e);
+      loss_has_precision = λ z e. term_lost g.F.NamedFormat g.met.F.NamedFormat.usable.sound x (value f.precision z) (answer_precise f g.met.F.NamedFormat.usable.sound rn g.met.R.Rule.rounds (term_value x) r a z e) (a.rightly_rounded.nearest z e);
     }

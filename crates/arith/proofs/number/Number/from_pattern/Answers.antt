@@ -19,10 +19,10 @@ answered g n (Err d) P e h = tt
 pub returns-clause-ieee_value : goal.returns-clause-ieee_value
 returns-clause-ieee_value g c =
     let f = g.F.NamedFormat.format in
-    answered g.F.NamedFormat c.args.pattern c.decode.result _ c.decode.ensures (λ x. ieee_value_lem f c.args.pattern x f.some_digit)
+    answered g.F.NamedFormat c.args.pattern c.decode.result _ c.decode.ensures (λ x. ieee_value_lem f c.args.pattern x g.met.F.NamedFormat.usable.sound.some_digit)
 
 pub returns-clause-shown_again : goal.returns-clause-shown_again
-returns-clause-shown_again g c = answered g.F.NamedFormat c.args.pattern c.decode.result _ c.decode.ensures (shown g.F.NamedFormat.format c.args.pattern)
+returns-clause-shown_again g c = answered g.F.NamedFormat c.args.pattern c.decode.result _ c.decode.ensures (shown g.F.NamedFormat.format g.met.F.NamedFormat.usable.sound c.args.pattern)
 
 pub returns-clause-told_apart : goal.returns-clause-told_apart
-returns-clause-told_apart g c = answered g.F.NamedFormat c.args.pattern c.decode.result _ c.decode.ensures (told_apart g.F.NamedFormat.format c.args.pattern)
+returns-clause-told_apart g c = answered g.F.NamedFormat c.args.pattern c.decode.result _ c.decode.ensures (told_apart g.F.NamedFormat.format g.met.F.NamedFormat.usable.sound c.args.pattern)

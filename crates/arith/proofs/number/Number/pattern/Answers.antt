@@ -10,4 +10,4 @@ returns-clause-read_back g c =
     let f = g.F.NamedFormat.format in
     let x = c.args.self in
     let some : 0 < x.significand = omega arith in
-    subst (λ n. decoded f n ≡ Ok (parts_of x)) (sym c.encode.ensures) (read_back f (parts_of x) some x.short (x.full some) x.low x.high)
+    subst (λ n. decoded f n ≡ Ok (parts_of x)) (sym c.encode.ensures) (read_back f g.met.F.NamedFormat.usable.sound (parts_of x) some x.short (x.full some) x.low x.high)
