@@ -17,8 +17,8 @@ binary32 = record { precision = 24; emax = 127; width = 32 }
 abbrev pub format_of : ℕ → Format
 format_of c = cond (c == 1) binary16 (cond (c == 2) bfloat16 binary32)
 
--- A format whose numbers fit each other and the code's numbers, which hold its significands, exponents and patterns. The bits that the
--- sign and the fraction leave are the exponent field: it has a value for each exponent from 1 − emax to emax, and two more.
+-- A format whose numbers fit each other and the integers that hold its significands, exponents and patterns. The bits that the sign and
+-- the fraction leave are the exponent field: it has a value for each exponent from 1 − emax to emax, and two more.
 pub record Sound (f : Format) : Type 0 where
   pub some_digit : 0 < f.precision
   pub few_digits : f.precision ≤ 24

@@ -29,7 +29,7 @@ impl Format {
     }
 }
 
-// A format by its name. Its meaning is the format; owed is that the format's numbers fit each other and those of the code.
+// A format by its name. Its meaning is the format; owed is that the format's numbers fit each other and the integers of the code.
 pub trait NamedFormat: Copy {
     ghost use Rattle.arith.specs.Format.{Usable};
     ghost use Rattle.arith.specs.declared.format.Format.{Format};

@@ -209,14 +209,19 @@ fn opened_of<'a>(
     }
 }
 
-// Opens a run and takes a record. Here and in the next two each answer is kept in a variable and then taken apart by one pattern, as
-// callers may do it.
+// Opens a run and takes a record, without room for its line and then with it. Here, in check_record and in check_format an answer is kept in
+// a variable and then taken apart by one pattern, as callers may do it.
 fn check_kept(rt: &HostRuntime, tape: &[u8]) -> io::Result<()> {
     let mut buffer = [170u8; 96];
     let mut bank = Bank::<Binary16>::new();
     let opened = opened_of(tape, &mut buffer);
-    let Ok(Some((run, line))) = opened else {
-        return println!(rt; "not opened");
+    let (run, line) = match opened {
+        Ok(Some((run, line))) => (run, line),
+        Ok(None) => return println!(rt; "not opened"),
+        Err(e) => {
+            let number = e.number();
+            return println!(rt; "no run: {number}");
+        }
     };
     println!(rt; "opened by a line of {line} bytes")?;
     let untaken = run.take_record(&mut bank, &mut [170u8; 95]);
@@ -262,7 +267,7 @@ fn check_record(rt: &HostRuntime, bytes: &[u8]) -> io::Result<()> {
 }
 
 // The format that the record at the front of some bytes names, if it is an opening record, and the bytes behind it.
-fn format_of<'a>(bytes: &'a [u8]) -> Result<Option<(Format, &'a [u8])>, RecordFault> {
+fn named_format<'a>(bytes: &'a [u8]) -> Result<Option<(Format, &'a [u8])>, RecordFault> {
     let frame = Frame::first(bytes)?;
     let Ok(codes) = records::read_opening(frame) else {
         return Ok(None);
@@ -271,14 +276,21 @@ fn format_of<'a>(bytes: &'a [u8]) -> Result<Option<(Format, &'a [u8])>, RecordFa
     Ok(Some((format, &bytes[4 + frame.payload.len()..])))
 }
 
+// What a format's name says of its patterns.
 fn check_format(rt: &HostRuntime, bytes: &[u8]) -> io::Result<()> {
-    let named = format_of(bytes);
-    let Ok(Some((format, behind))) = named else {
-        return println!(rt; "no format");
-    };
-    let width = format.width;
-    let left = behind.len();
-    println!(rt; "patterns of {width} bits, {left} bytes behind")
+    let named = named_format(bytes);
+    match named {
+        Ok(Some((format, behind))) => {
+            let width = format.width;
+            let left = behind.len();
+            println!(rt; "patterns of {width} bits, {left} bytes behind")
+        }
+        Ok(None) => println!(rt; "no format"),
+        Err(e) => {
+            let number = e.number();
+            println!(rt; "no whole record: {number}")
+        }
+    }
 }
 
 // Called at what is Send and Sync. (It has nothing to do: that it is called at a type is the check.)
@@ -348,11 +360,14 @@ fn main(rt: HostRuntime) -> io::Result<()> {
     check_kept(&rt, &[2, 0, 1, 0, 1, 1, 1, 0, 6, 0, 3])?;
     check_kept(&rt, &[2, 0, 1, 0, 1, 1, 0, 0, 8, 0])?;
     check_kept(&rt, &[0, 0, 8, 0])?;
+    check_kept(&rt, &[0u8; 65537])?;
     check_record(&rt, &[5, 0, 2, 0, 3, 0, 0x3C, 1, 0x3C])?;
     check_record(&rt, &[1, 0, 6, 0, 3])?;
     check_record(&rt, &[2, 0, 7, 0, 65, 66])?;
     check_record(&rt, &[0, 0, 8, 0])?;
     check_record(&rt, &[0, 0, 3, 0])?;
+    check_record(&rt, &[0, 0, 3])?;
     check_format(&rt, &[2, 0, 1, 0, 3, 1, 0, 0, 8, 0])?;
-    check_format(&rt, &[0, 0, 8, 0])
+    check_format(&rt, &[0, 0, 8, 0])?;
+    check_format(&rt, &[2, 0, 1])
 }

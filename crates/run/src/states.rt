@@ -3,8 +3,8 @@ use crate::refusal::Refusal;
 use records::Codes;
 
 // The tape as it was lent, the place reached on it, and the number of the last record. It is a tape and a place, and not the bytes that
-// are left, since a run promises to keep the tape as it was lent. That the place lies within the tape and the number is no larger is said by
-// the calls (InTape) and not here: docs/DECISIONS.md, 'Facts about a run', has the reason.
+// are left, since a run promises to keep the tape as it was lent. That the place lies within the tape, and that no more records were counted
+// than bytes passed over, is said by the calls (InTape) and not here: docs/DECISIONS.md, 'Facts about a run', has the reason.
 #[derive(Drop)]
 pub struct Window<'a> {
     pub(crate) tape: &'a [u8],
