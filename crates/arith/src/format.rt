@@ -29,7 +29,8 @@ impl Format {
     }
 }
 
-// A format by its name. Its meaning is the format; owed is that the format's numbers fit each other and the integers of the code.
+// A format by its name. Its meaning is the format; owed is that the format is usable: that its numbers fit each other and the integers that
+// hold them, that zero is in range, and that patterns are whole bytes.
 pub trait NamedFormat: Copy {
     ghost use Rattle.arith.specs.Format.{Usable};
     ghost use Rattle.arith.specs.declared.format.Format.{Format};

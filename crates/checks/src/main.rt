@@ -267,7 +267,7 @@ fn check_record(rt: &HostRuntime, bytes: &[u8]) -> io::Result<()> {
 }
 
 // The format that the record at the front of some bytes names, if it is an opening record, and the bytes behind it.
-fn named_format<'a>(bytes: &'a [u8]) -> Result<Option<(Format, &'a [u8])>, RecordFault> {
+fn named_format(bytes: &[u8]) -> Result<Option<(Format, &[u8])>, RecordFault> {
     let frame = Frame::first(bytes)?;
     let Ok(codes) = records::read_opening(frame) else {
         return Ok(None);

@@ -42,7 +42,7 @@ abbrev pub taken_from : Result (Frame × Window) RecordFault → Result Framed R
 taken_from (Ok r) = Ok (contents r.0)
 taken_from (Err e) = Err e
 
--- the number of the record behind; the largest number stays
+-- the number of the record behind the one with the number n; it stops at 2^32 − 1
 abbrev pub number_behind : ℕ → ℕ
 number_behind n = min (n + 1) 4294967295
 

@@ -56,8 +56,8 @@ impl<'a> Window<'a> {
         &self.tape[self.at.min(self.tape.len())..]
     }
 
-    // The number of the record at the place reached.
-    fn next_number(&self) -> u32
+    // The number of the record at the place reached, behind the last one.
+    fn number_behind(&self) -> u32
         ensures { result ≡ number_behind self.now.number }
     {
         self.number.saturating_add(1)
@@ -72,7 +72,7 @@ impl<'a> Window<'a> {
         let behind = Window {
             tape: self.tape,
             at: self.at + 4 + frame.payload.len(),
-            number: self.next_number(),
+            number: self.number_behind(),
         };
         Ok((frame, behind))
     }
@@ -155,7 +155,7 @@ impl<'a> OpenedRun<'a> {
         ensures refused_changes_nothing { is_err (outcome F.format (holds bank.old) (next_record self.entry)) ≡ true → holds bank.new ≡ holds bank.old }
     {
         let OpenedRun { window, codes } = self;
-        let number = window.next_number();
+        let number = window.number_behind();
         let ended = AfterRecord::Ended(EndedRun { records: number });
         match window.record() {
             Ok((frame, window)) => {
