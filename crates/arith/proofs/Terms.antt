@@ -5,7 +5,6 @@ use Rattle.exact.specs.Rounding.{NoneNearer}
 use Rattle.exact.proofs.Signs.{abs_signed}
 use Rattle.exact.proofs.Scaled.{product_scaled}
 use Rattle.exact.proofs.Bounds.{kept_error_precise, product_error_precise}
-use Rattle.arith.specs.Format.{Sound}
 use Rattle.arith.specs.declared.format.NamedFormat.{Ghosts}
 use Rattle.arith.specs.Number.{value_of}
 use Rattle.arith.specs.Term.{term_value, scaled_term}
@@ -24,6 +23,6 @@ term_value_lem g (Product x y) =
     product_scaled (signed_by x.negative x.significand) (signed_by y.negative y.significand) (x.exponent +ℤ pos 1 -ℤ p) (y.exponent +ℤ pos 1 -ℤ p)
 
 -- ---- what is lost of a term
-pub term_lost : {F : Type 0} (g : Ghosts F) → Sound g.format → (x : Term F g) (r : Exact) → HasPrecision g.format.precision r → NoneNearer g.format.precision (term_value x) r → HasPrecision g.format.precision (r ⊟ term_value x)
-term_lost g s (Number x) r h n = kept_error_precise g.format.precision (value_of x) r (number_precise g x) h n
-term_lost g s (Product x y) r h n = product_error_precise g.format.precision s.some_digit (value_of x) (value_of y) r (number_precise g x) (number_precise g y) h n
+pub term_lost : {F : Type 0} (g : Ghosts F) → (x : Term F g) (r : Exact) → HasPrecision g.format.precision r → NoneNearer g.format.precision (term_value x) r → HasPrecision g.format.precision (r ⊟ term_value x)
+term_lost g (Number x) r h n = kept_error_precise g.format.precision (value_of x) r (number_precise g x) h n
+term_lost g (Product x y) r h n = product_error_precise g.format.precision (value_of x) (value_of y) r (number_precise g x) (number_precise g y) h n

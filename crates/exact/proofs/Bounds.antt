@@ -69,14 +69,15 @@ kept_error_precise p t r ht hr n =
     let w = no_error p (precise_at p S t (omega arith) ht) (nearest_at p t r hr n S (omega arith) (omega arith)) in
     precise_like p S (r ⊟ t) (omega arith) (subst (WholePrecision p) (sym (at_minus S r t (omega arith) (omega arith) (omega arith))) w)
 
-module _ (p : ℕ) (hp : 0 < p) (x y r : Exact) (hx : HasPrecision p x) (hy : HasPrecision p y) (hr : HasPrecision p r) where
+module _ (p : ℕ) (x y r : Exact) (hx : HasPrecision p x) (hy : HasPrecision p y) (hr : HasPrecision p r) where
   pub product_error_precise : NoneNearer p (x ⊠ y) r → HasPrecision p (r ⊟ x ⊠ y)
   product_error_precise n =
       let S = x.low + r.low in
       let e : at (S + y.low) (x ⊠ y) ≡ at S x *ℤ at y.low y = at_times S y.low x y (omega arith) (omega arith) in
-      let w = product_error p hp (precise_at p S x (omega arith) hx) (precise_at p y.low y (omega arith) hy) (subst (λ (z : ℤ). NearestWhole p z (at (S + y.low) r)) e (nearest_at p (x ⊠ y) r hr n (S + y.low) (omega arith) (omega arith))) in
+      let w = product_error p (precise_at p S x (omega arith) hx) (precise_at p y.low y (omega arith) hy) (subst (λ (z : ℤ). NearestWhole p z (at (S + y.low) r)) e (nearest_at p (x ⊠ y) r hr n (S + y.low) (omega arith) (omega arith))) in
       precise_like p (S + y.low) (r ⊟ x ⊠ y) (omega arith) (subst (WholePrecision p) (sym (at_minus (S + y.low) r (x ⊠ y) (omega arith) (omega arith) (omega arith) ∙ ap (λ (z : ℤ). at (S + y.low) r -ℤ z) e)) w)
 
+module _ (p : ℕ) (hp : 0 < p) (x y r : Exact) (hx : HasPrecision p x) (hy : HasPrecision p y) (hr : HasPrecision p r) where
   abbrev all : ℕ
   all = x.low + y.low + r.low
 

@@ -1,6 +1,6 @@
 -- What a rounding loses of a product or of a sum of two numbers of precision p is itself a number of precision p.
-use Rattle.std.proofs.Common.{◌≡◌, ℕ, suc, ◌+◌, ◌*◌, ◌^◌, ◌<◌, ◌≤◌, [], ◌∷◌, ℤ, pos, ◌+ℤ◌, ◌-ℤ◌, ◌*ℤ◌, neg_ℤ, nat_abs, sym, ap, ◌∙◌, subst, ap₂, le_refl, mul-le-mul_right, mul-le-mul, pow-suc, arith, pow_pos, pow-add}
-use native.Mathlib.Decide.{dec_le}
+use Rattle.std.proofs.Common.{◌≡◌, ℕ, zero, suc, ◌+◌, ◌*◌, ◌^◌, ◌<◌, ◌≤◌, [], ◌∷◌, ℤ, pos, ◌+ℤ◌, ◌-ℤ◌, ◌*ℤ◌, neg_ℤ, nat_abs, sym, ap, ◌∙◌, subst, ap₂, le_refl, mul-le-mul_right, mul-le-mul, pow-suc, arith, pow_pos, pow-add}
+use native.Mathlib.Decide.{dec_le, dec_lt}
 use native.Mathlib.Nat.{le_of_mul-le-mul_left}
 use borrow.Author.Differences.{ints}
 use Rattle.exact.proofs.Ring.{ring, v, ◌⊗◌}
@@ -52,8 +52,16 @@ product_error_by p i {t} {r} hp m below n = go (dec_le (2 ^ p * 2 ^ i) (nat_abs 
         let u : 2 ^ i * 2 ^ d ≤ 2 ^ p * 2 ^ i = le_of_mul-le-mul_left (no_more (2 ^ p) (2 ^ d) (2 ^ i) (nat_abs t) lo' below) (pow_pos p) in
         small_error p i hp m n (omega (arith, e, pow-suc 2 (i + d)))
 
-pub product_error : (p : ℕ) {x y r : ℤ} → 0 < p → WholePrecision p x → WholePrecision p y → NearestWhole p (x *ℤ y) r → WholePrecision p (r -ℤ x *ℤ y)
-product_error p {x} {y} {r} hp (a, j, la, ex) (b, k, lb, ey) n = product_error_by p (j + k) hp (a *ℤ b, product) below n
+-- a number without a digit is zero, and so is its product with another
+no_digit : (m n p : ℕ) → (0 < p → ⊥) → m < 2 ^ p → m * n < 2 ^ p
+no_digit m n zero h l = omega (arith, ap (λ k. k * n) (first m l))
+  where
+    first : (m : ℕ) → m < 1 → m ≡ 0
+    first m l = omega arith
+no_digit m n (suc p) h l = absurd (h (omega arith))
+
+pub product_error : (p : ℕ) {x y r : ℤ} → WholePrecision p x → WholePrecision p y → NearestWhole p (x *ℤ y) r → WholePrecision p (r -ℤ x *ℤ y)
+product_error p {x} {y} {r} (a, j, la, ex) (b, k, lb, ey) n = go (dec_lt 0 p)
   where
     product : x *ℤ y ≡ a *ℤ b *ℤ two^ (j + k)
     product = ap₂ ◌*ℤ◌ ex ey ∙ ring (a ∷ b ∷ two^ j ∷ two^ k ∷ []) (v 0 ⊗ v 2 ⊗ (v 1 ⊗ v 3)) (v 0 ⊗ v 1 ⊗ (v 2 ⊗ v 3)) tt ∙ ap (λ z. a *ℤ b *ℤ z) (sym (two_add j k))
@@ -62,6 +70,10 @@ product_error p {x} {y} {r} hp (a, j, la, ex) (b, k, lb, ey) n = product_error_b
     below =
         let q : nat_abs a * nat_abs b ≤ 2 ^ p * 2 ^ p = mul-le-mul (omega arith) (omega arith) in
         rw (ap nat_abs product ∙ abs_mul (a *ℤ b) (two^ (j + k)) ∙ ap (λ z. z * 2 ^ (j + k)) (abs_mul a b)) (mul-le-mul_right (2 ^ (j + k)) q)
+
+    go : Dec (0 < p) → WholePrecision p (r -ℤ x *ℤ y)
+    go (yes hp) = product_error_by p (j + k) hp (a *ℤ b, product) below n
+    go (no z) = no_error p (a *ℤ b, j + k, rw (abs_mul a b) (no_digit (nat_abs a) (nat_abs b) p z la), product) n
 
 -- ---- a sum: the term with the higher last digit is itself a candidate, so the error is not larger than the other term
 sum_error_by : (p : ℕ) {x y r : ℤ} (i k : ℕ) (a b : ℤ) → 0 < p → nat_abs a < 2 ^ p → x ≡ a *ℤ two^ i → y ≡ b *ℤ two^ k → i ≤ k → WholePrecision p y → NearestWhole p (x +ℤ y) r → WholePrecision p (r -ℤ (x +ℤ y))

@@ -21,5 +21,5 @@ returns g c =
     record {
       defined = a.defined;
       rightly_rounded = a.rightly_rounded;
-      loss_has_precision = λ z e. term_lost g.F.NamedFormat g.met.F.NamedFormat.usable.sound x (value f.precision z) (answer_precise f g.met.F.NamedFormat.usable.sound rn g.met.R.Rule.rounds (term_value x) r a z e) (a.rightly_rounded.nearest z e);
+      loss_has_precision = λ z e. term_lost g.F.NamedFormat x (value f.precision z) (answer_precise f g.met.F.NamedFormat.usable.sound rn g.met.R.Rule.rounds (term_value x) r a z e) (a.rightly_rounded.nearest z e);
     }
